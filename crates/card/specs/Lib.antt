@@ -1,0 +1,13 @@
+pub mod Bytes
+pub mod Options
+pub mod Codec
+pub mod Header
+pub mod Limits
+pub mod Purse
+pub mod Record
+pub mod Pages
+pub mod Card
+pub mod Rule
+pub mod Issue
+pub mod Calls
+pub mod Sample

@@ -1,0 +1,31 @@
+// A card as its memory holds it: codecs of its pages and records, when pages are a card, and which records can be issued.
+mod bytes;
+mod header;
+mod host;
+mod issuing;
+mod limits;
+mod purse;
+mod read;
+mod record;
+mod sample;
+mod state;
+mod view;
+
+pub use header::BlockFlag;
+pub use header::Header;
+pub use header::LifeCycle;
+pub use host::HostRefusal;
+pub use issuing::is_issuable;
+pub use issuing::record_page;
+pub use limits::Limits;
+pub use purse::Last;
+pub use purse::Purse;
+pub use read::page_at;
+pub use read::read_card;
+pub use record::Kind;
+pub use record::Record;
+pub use sample::sample_record;
+pub use state::Selection;
+pub use state::Session;
+pub use state::State;
+pub use view::CardView;

@@ -1,0 +1,2 @@
+pub mod BytesAsPages
+pub mod Plans
