@@ -1,13 +1,12 @@
 -- Which records give a card that holds no record, and that this card does not depend on the pages above it.
 use mathlib.Core.Path.{_≡_, refl, sym, ap, ap₂, _∙_, subst}
 use mathlib.Core.Bool.{Bool, true, false, cond, _&&_}
-use mathlib.Core.List.{List, [], _∷_, _++_, map}
+use mathlib.Core.List.{List, [], _++_, map}
 use Prim.Native.Nat.{ℕ, _+_, _/_, _%_, _<_, _≤_}
 use native.Mathlib.Omega.{arith}
 use lib.Dec.{eqb}
-use lib.ListN.{length, getD, drop, replicate}
+use lib.ListN.{length, drop, replicate}
 use Rattle.std.specs.Iters.{counting}
-use Rattle.std.specs.Options.{isSome}
 use Rattle.std.specs.declared.option.Option.{Option}
 use Rattle.std.specs.declared.option.Option.the-variants.{Some, None}
 use Rattle.std.proofs.shelf.Lists.{append-assoc, length-append, getD-append-left}
@@ -15,26 +14,22 @@ use Rattle.std.proofs.shelf.Tests.{and-parts, eqb-true, eq-eqb, ne-eqb}
 use Rattle.memory.specs.ImagePages.{page-at, pages-of}
 use Rattle.memory.proofs.BytesAsPages.{length-pages-of}
 use Rattle.card.specs.declared.record.Record.{Record}
-use Rattle.card.specs.declared.view.Front.{Front}
+use Rattle.card.specs.declared.view.FirstPages.{FirstPages}
 use Rattle.card.specs.declared.view.CardView.{CardView}
 use Rattle.card.specs.Bytes.{part, word}
 use Rattle.card.specs.Purse.{held-in, newest-slot}
 use Rattle.card.specs.Record.{record-of}
 use Rattle.card.specs.Options.{and-then, only-if}
 use Rattle.card.specs.Pages.{Pages, page, slot-bytes}
-use Rattle.card.specs.Card.{newest-fits, front-of, view-with, with-newest, card-of}
+use Rattle.card.specs.Card.{newest-fits, first-pages-of, view-with, with-newest, card-of}
 use Rattle.card.specs.Rule.{Zeros, Header-kept, Purse-kept, Is-card, Decides}
-use Rattle.card.specs.Issue.{issued, holds-none, issuable, Issuable}
+use Rattle.card.specs.Issue.{issued, holds-none, first-none, issuable, Issuable}
 use Rattle.card.specs.Sample.{sample-source}
-use Rattle.card.proofs.Steps.{some-same, and-then-some, only-if-some, some-value}
+use Rattle.card.proofs.Steps.{some-value}
 use Rattle.card.proofs.Rules.{card-sound, card-complete, card-held}
 
 -- the newest record does not matter where it is asked whether any is held
-abbrev pub front-none : Option Front → Bool
-front-none None = false
-front-none (Some f) = eqb (f .purse .held) 0
-
-newest-none : (o : Option Record) (f : Front) → eqb (f .purse .held) 0 ≡ false →
+newest-none : (o : Option Record) (f : FirstPages) → eqb (f .purse .held) 0 ≡ false →
     holds-none (and-then o (λ r. only-if (newest-fits (f .purse) r) (Some (view-with f (Some r))))) ≡ false
 newest-none None f e = refl
 newest-none (Some r) f e = by (newest-fits (f .purse) r) where
@@ -42,33 +37,33 @@ newest-none (Some r) f e = by (newest-fits (f .purse) r) where
   by true = e
   by false = refl
 
-with-none : (f : Front) (p : Pages) → holds-none (with-newest (newest-slot (f .purse)) f p) ≡ eqb (f .purse .held) 0
+with-none : (f : FirstPages) (p : Pages) → holds-none (with-newest (newest-slot (f .purse)) f p) ≡ eqb (f .purse .held) 0
 with-none f p = by (eqb (f .purse .held) 0) refl where
   by : (b : Bool) → eqb (f .purse .held) 0 ≡ b → holds-none (with-newest (cond b None (Some ((f .purse .next + 9) % 10))) f p) ≡ b
   by true e = e
   by false e = newest-none (record-of (slot-bytes p ((f .purse .next + 9) % 10))) f e
 
-card-none : (o : Option Front) (p : Pages) → holds-none (and-then o (λ f. with-newest (newest-slot (f .purse)) f p)) ≡ front-none o
+card-none : (o : Option FirstPages) (p : Pages) → holds-none (and-then o (λ f. with-newest (newest-slot (f .purse)) f p)) ≡ first-none o
 card-none None p = refl
 card-none (Some f) p = with-none f p
 
 -- a record's own pages decide
-test-front : (s : List ℕ) → length s ≡ 192 → issuable s ≡ front-none (front-of (page-at s 0) (page-at s 1) (page-at s 2) (page-at s 11))
+test-first : (s : List ℕ) → length s ≡ 192 → issuable s ≡ first-none (first-pages-of (page-at s 0) (page-at s 1) (page-at s 2) (page-at s 11))
 unfolding issuable issued pages-of
-test-front s size =
+test-first s size =
     let e : length s / 16 ≡ 12 = omega arith in
     let made : ℕ → Pages = λ n. map (page-at s) (counting 0 n) ++ (replicate 20 (replicate 16 0) ++ []) in
     ap (λ b. b && holds-none (card-of (made (length s / 16)))) (eq-eqb (length s) 192 size)
     ∙ ap (λ n. holds-none (card-of (made n))) e
-    ∙ card-none (front-of (page-at s 0) (page-at s 1) (page-at s 2) (page-at s 11)) (made 12)
+    ∙ card-none (first-pages-of (page-at s 0) (page-at s 1) (page-at s 2) (page-at s 11)) (made 12)
 
 pub test-short : (s : List ℕ) → (length s ≡ 192 → ⊥) → false ≡ issuable s
 unfolding issuable
 test-short s ne = sym (ap (λ b. b && holds-none (card-of (issued s []))) (ne-eqb (length s) 192 ne))
 
 module _ (s a b c d : List ℕ) (size : length s ≡ 192) (e₀ : a ≡ page-at s 0) (e₁ : b ≡ page-at s 1) (e₂ : c ≡ page-at s 2) (e₃ : d ≡ page-at s 11) where
-  pub test-read : (o : Option Front) → o ≡ front-of a b c d → front-none o ≡ issuable s
-  test-read o e = ap front-none e ∙ simp (e₀, e₁, e₂, e₃) (sym (test-front s size))
+  pub test-read : (r : Bool) → r ≡ first-none (first-pages-of a b c d) → r ≡ issuable s
+  test-read r e = e ∙ simp (e₀, e₁, e₂, e₃) (sym (test-first s size))
 
 -- the rule
 held-none : (o : Option CardView) → holds-none o ≡ true → (v : CardView) × (o ≡ Some v) × (v .purse .held ≡ 0)
@@ -120,11 +115,11 @@ issued-card s p k =
       header = subst Header-kept e₀ (k .card .header);
       limits = subst (λ (x : List ℕ). Zeros (part 8 8 x)) e₁ (k .card .limits);
       purse = subst (λ (x : List ℕ). Purse-kept (page (issued s p) 1) x) e₂ (subst (λ (x : List ℕ). Purse-kept x (page (issued s []) 2)) e₁ (k .card .purse));
-      reserved = subst Zeros e₁₁ (k .card .reserved);
+      unused = subst Zeros e₁₁ (k .card .unused);
       newest = λ h. absurd (omega arith);
     }
 
 -- the sample card's record is one that issue takes
 pub sample-issuable : Issuable sample-source
 unfolding word
-sample-issuable = issue-sound sample-source (test-front sample-source refl)
+sample-issuable = issue-sound sample-source (test-first sample-source refl)

@@ -5,8 +5,7 @@ use mathlib.Core.Logic.{_⊎_, inl, inr, ⊎-elim}
 use mathlib.Core.List.{List, [], _∷_}
 use Prim.Native.Nat.{ℕ, zero, suc, _+_, _%_, _<_, _≤_}
 use native.Mathlib.Omega.{arith}
-use lib.Dec.{eqb, leb, ltb}
-use lib.ListN.{length, getD}
+use lib.Dec.{eqb, leb}
 use Rattle.std.specs.Options.{isSome}
 use Rattle.std.specs.declared.option.Option.{Option}
 use Rattle.std.specs.declared.option.Option.the-variants.{Some, None}
@@ -24,16 +23,16 @@ use Rattle.card.specs.declared.purse.Purse.{Purse}
 use Rattle.card.specs.declared.record.Kind.{Kind}
 use Rattle.card.specs.declared.record.Kind.the-variants.{Ride as ride-kind, Cancel as cancel-kind}
 use Rattle.card.specs.declared.record.Record.{Record}
-use Rattle.card.specs.declared.view.Front.{Front}
+use Rattle.card.specs.declared.view.FirstPages.{FirstPages}
 use Rattle.card.specs.declared.view.CardView.{CardView}
 use Rattle.card.specs.Bytes.{byte, part, word-at, all-zero}
-use Rattle.card.specs.Options.{and-then, only-if}
-use Rattle.card.specs.Header.{life-cycle-byte, life-cycle-of, block-flag-byte, block-flag-of, header-of}
-use Rattle.card.specs.Limits.{limit-in, limits-of}
-use Rattle.card.specs.Purse.{last-byte, last-of, total-in, number-in, next-in, held-in, last-in, purse-of, newest-slot}
-use Rattle.card.specs.Record.{kind-byte, kind-of, record-of}
+use Rattle.card.specs.Options.{only-if}
+use Rattle.card.specs.Header.{life-cycle-of, block-flag-of, header-in, header-of}
+use Rattle.card.specs.Limits.{limit-in, limits-in}
+use Rattle.card.specs.Purse.{last-byte, last-of, total-in, nt-in, next-in, held-in, last-in, purse-in, newest-slot}
+use Rattle.card.specs.Record.{kind-byte, kind-of, record-in, record-of}
 use Rattle.card.specs.Pages.{Pages, page, slot-bytes}
-use Rattle.card.specs.Card.{last-fits, purse-fits, kind-fits, amount-fits, newest-fits, front-of, view-with, with-newest, card-of}
+use Rattle.card.specs.Card.{last-fits, purse-fits, kind-fits, amount-fits, newest-fits, first-pages-of, view-with, with-newest, card-of}
 use Rattle.card.specs.Rule.{Zeros, Header-kept, Purse-kept, Newest-kept, newest-bytes, Is-card, Decides}
 use Rattle.card.proofs.Codes.{last-written, kind-written}
 use Rattle.card.proofs.Steps.{some-same, and-then-some, only-if-some, and-then-at, only-if-at, some-value}
@@ -79,17 +78,11 @@ header-complete : (xs : List ℕ) → Header-kept xs → (h : Header) × (header
 header-complete xs k =
     let l = life-known (byte xs 0) (k .life) in
     let f = block-known (byte xs 1) (k .block) in (
-      record { life = l .0; block = f .0; algorithm = byte xs 2; version = byte xs 3; center = byte xs 4; idep = part 8 8 xs },
+      header-in xs (l .0) (f .0),
       and-then-at _ _ _ (l .1) ∙ and-then-at _ _ _ (f .1) ∙ only-if-at _ _ (zeros-complete _ (k .zeros)),
     )
 
 -- Page 2, against page 1.
-abbrev limits-in : List ℕ → Limits
-limits-in one = record { ceiling = word-at 0 one; limit = limit-in one }
-
-abbrev purse-in : List ℕ → Last → Purse
-purse-in two l = record { total = total-in two; number = number-in two; next = next-in two; held = held-in two; last = l }
-
 purse-tests : (total limit next held : ℕ) (x : Bool) → (leb total limit && (leb next 9 && (leb held 10 && ((leb 10 held || eqb next held) && x)))) ≡ true →
     (total ≤ limit) × (next ≤ 9) × (held ≤ 10) × (held < 10 → next ≡ held) × (x ≡ true)
 purse-tests total limit next held x e =
@@ -142,10 +135,6 @@ purse-complete one two k =
     )
 
 -- The newest record.
-abbrev record-in : List ℕ → Kind → Record
-record-in xs k =
-    record { kind = k; number = word-at 1 xs; amount = word-at 5 xs; idsam = part 9 8 xs; ntsam = word-at 17 xs; time = part 21 7 xs; total = word-at 28 xs }
-
 newest-kinds : (b : ℕ) (l : Last) (k : Kind) → last-byte l ≡ b → kind-fits l k ≡ true → (b ≡ 0x01 → kind-byte k ≡ 0x20) × (b ≡ 0x02 → kind-byte k ≡ 0x22)
 newest-kinds b Nothing k e f = absurd (grind arith)
 newest-kinds b Ride ride-kind e f = (λ _. refl, λ h. grind arith)
@@ -169,7 +158,7 @@ newest-sound two xs l k b e f =
       ride = λ h. sym c ∙ n .0 h;
       cancel = λ h. sym c ∙ n .1 h;
       total = eqb-true _ _ (q .0);
-      number = leb-true _ _ (r .0);
+      nt = leb-true _ _ (r .0);
       amount = newest-amount (last-in two) (word-at 5 xs) (total-in two) l b (r .1);
     }
 
@@ -184,21 +173,21 @@ newest-complete : (two xs : List ℕ) (l : Last) → last-byte l ≡ last-in two
     (k : Kind) × (kind-of (byte xs 0) ≡ Some k) × (newest-fits (purse-in two l) (record-in xs k) ≡ true)
 newest-complete two xs l b s n =
     let k = newest-known (last-in two) (byte xs 0) (word-at 5 xs) (total-in two) l b s (n .ride) (n .cancel) (n .amount) in
-    (k .0, k .1, all-both _ _ (k .2) (all-both _ _ (eq-eqb _ _ (n .total)) (all-both _ _ (le-leb _ _ (n .number)) (k .3))))
+    (k .0, k .1, all-both _ _ (k .2) (all-both _ _ (eq-eqb _ _ (n .total)) (all-both _ _ (le-leb _ _ (n .nt)) (k .3))))
 
 -- The card.
 -- what pages 0, 1, 2 and 11 had to keep, and what was read of page 2
-record Fronted (first one two eleven : List ℕ) (f : Front) : Type 0 where
+record First-kept (first one two eleven : List ℕ) (f : FirstPages) : Type 0 where
   header : Header-kept first
   limits : Zeros (part 8 8 one)
   purse : Purse-kept one two
-  reserved : Zeros eleven
+  unused : Zeros eleven
   last : Last
   code : last-byte last ≡ last-in two
   is : f .purse ≡ purse-in two last
 
-front-sound : (first one two eleven : List ℕ) (f : Front) → front-of first one two eleven ≡ Some f → Fronted first one two eleven f
-front-sound first one two eleven f e =
+first-sound : (first one two eleven : List ℕ) (f : FirstPages) → first-pages-of first one two eleven ≡ Some f → First-kept first one two eleven f
+first-sound first one two eleven f e =
     let h = and-then-some _ _ _ e in
     let l = and-then-some _ _ _ (h .2) in
     let z = only-if-some _ _ _ (l .1) in
@@ -215,15 +204,15 @@ front-sound first one two eleven f e =
       header = header-sound first (h .0) (h .1);
       limits = zeros-sound _ (z .0);
       purse = purse-sound one two (t .0) (t .1) (y .0) fits;
-      reserved = zeros-sound _ (r .0);
+      unused = zeros-sound _ (r .0);
       last = t .0;
       code = last-written _ _ (t .1);
-      is = ap (λ (g : Front). g .purse) (sym f-is) ∙ sym two-is;
+      is = ap (λ (g : FirstPages). g .purse) (sym f-is) ∙ sym two-is;
     }
 
-front-complete : (first one two eleven : List ℕ) → Header-kept first → Zeros (part 8 8 one) → Purse-kept one two → Zeros eleven →
-    (f : Front) × (front-of first one two eleven ≡ Some f) × ((l : Last) × (last-byte l ≡ last-in two) × (f .purse ≡ purse-in two l))
-front-complete first one two eleven h z u r =
+first-complete : (first one two eleven : List ℕ) → Header-kept first → Zeros (part 8 8 one) → Purse-kept one two → Zeros eleven →
+    (f : FirstPages) × (first-pages-of first one two eleven ≡ Some f) × ((l : Last) × (last-byte l ≡ last-in two) × (f .purse ≡ purse-in two l))
+first-complete first one two eleven h z u r =
     let x = header-complete first h in
     let l = purse-complete one two u in (
       record { header = x .0; limits = limits-in one; purse = purse-in two (l .0) },
@@ -246,7 +235,7 @@ pub card-sound : (p : Pages) (v : CardView) → card-of p ≡ Some v → Is-card
 card-sound p v e =
     let n = only-if-some _ _ _ e in
     let f = and-then-some _ _ _ (n .1) in
-    let k = front-sound (page p 0) (page p 1) (page p 2) (page p 11) (f .0) (f .1) in
+    let k = first-sound (page p 0) (page p 1) (page p 2) (page p 11) (f .0) (f .1) in
     let two : List ℕ = page p 2 in
     let newest : 0 < held-in two → Newest-kept two (newest-bytes p) = λ h.
     let slot : newest-slot (f .0 .purse) ≡ Some ((next-in two + 9) % 10) = rw (k .is) (slot-held (purse-in two (k .last)) h) in
@@ -257,12 +246,12 @@ card-sound p v e =
     let r-is : record-in (newest-bytes p) (q .0) ≡ r .0 = some-same _ _ (q .2) in
     let fits : newest-fits (purse-in two (k .last)) (record-in (newest-bytes p) (q .0)) ≡ true = ap₂ newest-fits (sym (k .is)) r-is ∙ t .0 in
     newest-sound two (newest-bytes p) (k .last) (q .0) (k .code) (q .1) fits in
-    record { room = leb-true _ _ (n .0); header = k .header; limits = k .limits; purse = k .purse; reserved = k .reserved; newest = newest }
+    record { room = leb-true _ _ (n .0); header = k .header; limits = k .limits; purse = k .purse; unused = k .unused; newest = newest }
 
 pub card-complete : (p : Pages) → Is-card p → isSome (card-of p) ≡ true
 card-complete p c =
     let two : List ℕ = page p 2 in
-    let f = front-complete (page p 0) (page p 1) (page p 2) (page p 11) (c .header) (c .limits) (c .purse) (c .reserved) in
+    let f = first-complete (page p 0) (page p 1) (page p 2) (page p 11) (c .header) (c .limits) (c .purse) (c .unused) in
     let l : Last = f .2 .0 in
     let is : f .0 .purse ≡ purse-in two l = f .2 .2 in
     let start : card-of p ≡ with-newest (newest-slot (f .0 .purse)) (f .0) p = only-if-at _ _ (le-leb _ _ (c .room)) ∙ and-then-at _ _ _ (f .1) in
@@ -284,7 +273,7 @@ pub card-decides : (p : Pages) (r : Option CardView) → r ≡ card-of p → Dec
 card-decides p r e = let P : Option CardView → Type 0 = λ o. Decides (isSome o) (Is-card p) in subst P (sym e) (decides p)
 
 -- what a card is read to hold is what page 2 says
-newest-purse : (o : Option ℕ) (f : Front) (p : Pages) (v : CardView) → with-newest o f p ≡ Some v → f .purse ≡ v .purse
+newest-purse : (o : Option ℕ) (f : FirstPages) (p : Pages) (v : CardView) → with-newest o f p ≡ Some v → f .purse ≡ v .purse
 newest-purse None f p v e = ap (λ (w : CardView). w .purse) (some-same (view-with f None) v e)
 newest-purse (Some s) f p v e =
     let r = and-then-some (record-of (slot-bytes p s)) (λ x. only-if (newest-fits (f .purse) x) (Some (view-with f (Some x)))) v e in
@@ -295,5 +284,5 @@ pub card-held : (p : Pages) (v : CardView) → card-of p ≡ Some v → v .purse
 card-held p v e =
     let n = only-if-some _ _ _ e in
     let f = and-then-some _ _ _ (n .1) in
-    let k = front-sound (page p 0) (page p 1) (page p 2) (page p 11) (f .0) (f .1) in
+    let k = first-sound (page p 0) (page p 1) (page p 2) (page p 11) (f .0) (f .1) in
     ap (λ (u : Purse). u .held) (sym (newest-purse _ (f .0) p v (f .2)) ∙ k .is)

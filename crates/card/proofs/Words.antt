@@ -1,5 +1,5 @@
 -- Four bytes and the number that they are, and a list by its elements.
-use mathlib.Core.Path.{_≡_, refl, sym, subst}
+use mathlib.Core.Path.{_≡_, refl}
 use mathlib.Core.List.{List, [], _∷_, _++_, map}
 use Prim.Native.Nat.{ℕ, _+_, _*_, _/_, _%_, _^_, _<_}
 use native.Mathlib.Omega.{arith}
@@ -12,10 +12,6 @@ use Rattle.card.specs.Bytes.{byte, four, word}
 -- a list of n bytes, byte by byte
 pub listed : (xs : List ℕ) (n : ℕ) → length xs ≡ n → xs ≡ map (byte xs) (counting 0 n)
 listed xs n h = fill-by-all (byte xs) xs n 0 h (λ k l. refl)
-
--- what holds of n bytes written out holds of a list of n
-pub by-place : (xs : List ℕ) (n : ℕ) → length xs ≡ n → (P : List ℕ → Type 0) → P (map (byte xs) (counting 0 n)) → P xs
-by-place xs n e P p = subst P (sym (listed xs n e)) p
 
 -- a number written and read again
 pub word-four : (n : ℕ) (xs : List ℕ) → n < 2 ^ 32 → word (four n ++ xs) ≡ n

@@ -1,4 +1,4 @@
--- One more byte of a list of zeros.
+-- Bytes that are all 00: one more of them, and the list that they are.
 use mathlib.Core.Path.{_≡_, refl, ap, _∙_}
 use mathlib.Core.Bool.{cond, true, false}
 use mathlib.Core.List.{List, [], _∷_}
@@ -17,7 +17,6 @@ module _ (xs : List ℕ) (i : ℕ) (h : i < length xs) where
   pub zero-more : getD xs i 0 ≡ 0 → all-zero (drop i xs) ≡ all-zero (drop (i + 1) xs)
   zero-more e = at-drop-more all-zero xs i 0 h ∙ ap (λ b. cond b (all-zero (drop (i + 1) xs)) false) (eq-eqb _ _ e)
 
--- bytes that are all zero
 pub zeros : (xs : List ℕ) → all-zero xs ≡ true → replicate (length xs) 0 ≡ xs
 zeros [] e = refl
 zeros (x ∷ xs) e =

@@ -1,7 +1,8 @@
 -- What issue and power-on answer the host, and how they leave the state.
-use mathlib.Core.Bool.{Bool, true, false, cond}
+use mathlib.Core.Path.{_≡_}
+use mathlib.Core.Bool.{Bool, true, false, cond, not}
 use mathlib.Core.List.{List, [], _∷_}
-use Prim.Native.Nat.{ℕ}
+use Prim.Native.Nat.{ℕ, _<_, _≤_}
 use lib.Dec.{ltb}
 use lib.ListN.{length}
 use Rattle.std.specs.Iters.{counting}
@@ -15,7 +16,7 @@ use Rattle.card.specs.declared.state.Session.the-variants.{Quiet}
 use Rattle.card.specs.declared.state.State.{State}
 use Rattle.card.specs.Pages.{Pages}
 use Rattle.card.specs.Card.{card-of}
-use Rattle.card.specs.Issue.{issuable}
+use Rattle.card.specs.Issue.{issuable, Issuable}
 
 -- the number of each refusal
 abbrev pub host-number : HostRefusal → ℕ
@@ -33,7 +34,14 @@ any-worn worn (k ∷ ks) = cond (worn k) true (any-worn worn ks)
 abbrev pub issue-answer : ℕ → (ℕ → Bool) → List ℕ → Result (Unit {0}) HostRefusal
 issue-answer count worn source =
     cond (ltb count 32) (Err TooFewPages)
-    (cond (issuable source) (cond (any-worn worn (counting 0 32)) (Err WornPage) (Ok tt)) (Err WrongRecord))
+    (cond (not (issuable source)) (Err WrongRecord)
+    (cond (any-worn worn (counting 0 32)) (Err WornPage) (Ok tt)))
+
+-- what issue takes: a memory of at least 32 pages, a record that gives a card which holds 0 records, and no worn page among the 32
+pub record Issue-taken (count : ℕ) (worn : ℕ → Bool) (source : List ℕ) : Type 0 where
+  pub room : 32 ≤ count
+  pub fits : Issuable source
+  pub writable : (k : ℕ) → k < 32 → worn k ≡ false
 
 -- power-on: the first refusal that applies decides
 abbrev pub power-on-answer : Pages → Result (Unit {0}) HostRefusal

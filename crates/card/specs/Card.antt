@@ -1,4 +1,4 @@
--- The card that pages are, worked out page by page. The rule itself, in words, is `Is-card` of Rule.antt.
+-- The card that pages are, worked out page by page. The rule that it meets, a list of conditions, is `Is-card` of Rule.antt.
 use mathlib.Core.Bool.{Bool, true, false, _&&_, _||_}
 use mathlib.Core.List.{List}
 use Prim.Native.Nat.{ℕ}
@@ -13,7 +13,7 @@ use Rattle.card.specs.declared.purse.Purse.{Purse}
 use Rattle.card.specs.declared.record.Kind.{Kind}
 use Rattle.card.specs.declared.record.Kind.the-variants.{Ride as ride-kind, Cancel as cancel-kind}
 use Rattle.card.specs.declared.record.Record.{Record}
-use Rattle.card.specs.declared.view.Front.{Front}
+use Rattle.card.specs.declared.view.FirstPages.{FirstPages}
 use Rattle.card.specs.declared.view.CardView.{CardView}
 use Rattle.card.specs.Bytes.{all-zero}
 use Rattle.card.specs.Options.{and-then, only-if}
@@ -42,7 +42,7 @@ kind-fits Ride cancel-kind = false
 kind-fits Cancel ride-kind = false
 kind-fits Cancel cancel-kind = true
 
--- the total has the amount of a ride
+-- for a ride, the amount is at most the total
 abbrev pub amount-fits : Last → ℕ → ℕ → Bool
 amount-fits Nothing amount total = true
 amount-fits Ride amount total = leb amount total
@@ -50,25 +50,25 @@ amount-fits Cancel amount total = true
 
 -- what the newest record is to keep
 abbrev pub newest-fits : Purse → Record → Bool
-newest-fits u r = kind-fits (u .last) (r .kind) && (eqb (r .total) (u .total) && (leb (r .number) (u .number) && amount-fits (u .last) (r .amount) (u .total)))
+newest-fits u r = kind-fits (u .last) (r .kind) && (eqb (r .total) (u .total) && (leb (r .nt) (u .nt) && amount-fits (u .last) (r .amount) (u .total)))
 
 -- pages 0, 1, 2 and 11 where each keeps its rule
-abbrev pub front-of : List ℕ → List ℕ → List ℕ → List ℕ → Option Front
-front-of zero one two eleven =
+abbrev pub first-pages-of : List ℕ → List ℕ → List ℕ → List ℕ → Option FirstPages
+first-pages-of zero one two eleven =
     and-then (header-of zero) (λ header.
     and-then (limits-of one) (λ limits.
     and-then (purse-of two) (λ purse.
     only-if (all-zero eleven) (only-if (purse-fits limits purse) (Some (record { header = header; limits = limits; purse = purse }))))))
 
-abbrev pub view-with : Front → Option Record → CardView
+abbrev pub view-with : FirstPages → Option Record → CardView
 view-with f newest = record { header = f .header; limits = f .limits; purse = f .purse; newest = newest }
 
 -- the card with the record of its newest slot, where there is one
-abbrev pub with-newest : Option ℕ → Front → Pages → Option CardView
+abbrev pub with-newest : Option ℕ → FirstPages → Pages → Option CardView
 with-newest None f p = Some (view-with f None)
 with-newest (Some s) f p = and-then (record-of (slot-bytes p s)) (λ r. only-if (newest-fits (f .purse) r) (Some (view-with f (Some r))))
 
 -- the card that pages are; none where they are no card
 abbrev pub card-of : Pages → Option CardView
 card-of p =
-    only-if (leb 32 (length p)) (and-then (front-of (page p 0) (page p 1) (page p 2) (page p 11)) (λ f. with-newest (newest-slot (f .purse)) f p))
+    only-if (leb 32 (length p)) (and-then (first-pages-of (page p 0) (page p 1) (page p 2) (page p 11)) (λ f. with-newest (newest-slot (f .purse)) f p))

@@ -1,6 +1,6 @@
--- Page 0: who the card is, and whether it is in use and free.
+-- Page 0: the identity of the card, its life cycle and its block flag.
 use mathlib.Core.Bool.{cond}
-use mathlib.Core.List.{List, [], _∷_}
+use mathlib.Core.List.{List, _∷_}
 use Prim.Native.Nat.{ℕ}
 use lib.Dec.{eqb}
 use Rattle.std.specs.declared.option.Option.{Option}
@@ -29,12 +29,15 @@ block-flag-of b = cond (eqb b 0x00) (Some Free) (cond (eqb b 0x01) (Some Blocked
 
 -- life cycle 1, block flag 1, ALG 1, VK 1, IDCENTER 1, three 00, IDEP 8
 abbrev pub header-page : Header → List ℕ
-header-page h = life-cycle-byte (h .life) ∷ block-flag-byte (h .block) ∷ h .algorithm ∷ h .version ∷ h .center ∷ 0 ∷ 0 ∷ 0 ∷ h .idep
+header-page h = life-cycle-byte (h .life) ∷ block-flag-byte (h .block) ∷ h .algorithm ∷ h .version ∷ h .idcenter ∷ 0 ∷ 0 ∷ 0 ∷ h .idep
+
+abbrev pub header-in : List ℕ → LifeCycle → BlockFlag → Header
+header-in page life block =
+    record { life = life; block = block; algorithm = byte page 2; version = byte page 3; idcenter = byte page 4; idep = part 8 8 page }
 
 -- the header in a page; none where a byte is no life cycle or no block flag, or a fixed 00 is missing
 abbrev pub header-of : List ℕ → Option Header
 header-of page =
     and-then (life-cycle-of (byte page 0)) (λ life.
     and-then (block-flag-of (byte page 1)) (λ block.
-    only-if (all-zero (part 5 3 page))
-    (Some (record { life = life; block = block; algorithm = byte page 2; version = byte page 3; center = byte page 4; idep = part 8 8 page }))))
+    only-if (all-zero (part 5 3 page)) (Some (header-in page life block))))

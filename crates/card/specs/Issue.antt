@@ -9,6 +9,7 @@ use Rattle.std.specs.declared.option.Option.{Option}
 use Rattle.std.specs.declared.option.Option.the-variants.{Some, None}
 use Rattle.memory.specs.ImagePages.{pages-of}
 use Rattle.card.specs.declared.view.CardView.{CardView}
+use Rattle.card.specs.declared.view.FirstPages.{FirstPages}
 use Rattle.card.specs.Purse.{held-in}
 use Rattle.card.specs.Pages.{Pages, page}
 use Rattle.card.specs.Card.{card-of}
@@ -22,6 +23,11 @@ issued source p = pages-of source ++ (replicate 20 (replicate 16 0) ++ drop 32 p
 abbrev pub holds-none : Option CardView → Bool
 holds-none None = false
 holds-none (Some v) = eqb (v .purse .held) 0
+
+-- the same, told by pages 0, 1, 2 and 11 alone
+abbrev pub first-none : Option FirstPages → Bool
+first-none None = false
+first-none (Some f) = eqb (f .purse .held) 0
 
 -- whether issue takes a record
 unfoldable pub issuable : List ℕ → Bool

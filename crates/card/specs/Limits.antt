@@ -18,6 +18,9 @@ limit-in page = word-at 4 page
 abbrev pub limits-page : Limits → List ℕ
 limits-page l = four (l .ceiling) ++ (four (l .limit) ++ replicate 8 0)
 
+abbrev pub limits-in : List ℕ → Limits
+limits-in page = record { ceiling = ceiling-in page; limit = limit-in page }
+
 -- the limits in a page; none where a fixed 00 is missing
 abbrev pub limits-of : List ℕ → Option Limits
-limits-of page = only-if (all-zero (part 8 8 page)) (Some (record { ceiling = ceiling-in page; limit = limit-in page }))
+limits-of page = only-if (all-zero (part 8 8 page)) (Some (limits-in page))

@@ -1,8 +1,8 @@
--- Page 2: the total, the transaction number, and where the log stands.
-use mathlib.Core.Bool.{Bool, cond, _&&_, _||_, not}
-use mathlib.Core.List.{List, [], _∷_, _++_}
+-- Page 2: the total, the transaction number, and the state of the log.
+use mathlib.Core.Bool.{cond}
+use mathlib.Core.List.{List, _∷_, _++_}
 use Prim.Native.Nat.{ℕ, _+_, _%_}
-use lib.Dec.{eqb, leb, ltb}
+use lib.Dec.{eqb}
 use lib.ListN.{replicate}
 use Rattle.std.specs.declared.option.Option.{Option}
 use Rattle.std.specs.declared.option.Option.the-variants.{Some, None}
@@ -23,8 +23,8 @@ last-of b = cond (eqb b 0x00) (Some Nothing) (cond (eqb b 0x01) (Some Ride) (con
 abbrev pub total-in : List ℕ → ℕ
 total-in page = word-at 0 page
 
-abbrev pub number-in : List ℕ → ℕ
-number-in page = word-at 4 page
+abbrev pub nt-in : List ℕ → ℕ
+nt-in page = word-at 4 page
 
 abbrev pub next-in : List ℕ → ℕ
 next-in page = byte page 8
@@ -37,14 +37,14 @@ last-in page = byte page 10
 
 -- total 4, NT 4, next slot 1, held 1, last 1, five 00
 abbrev pub purse-page : Purse → List ℕ
-purse-page u = four (u .total) ++ (four (u .number) ++ (u .next ∷ u .held ∷ last-byte (u .last) ∷ replicate 5 0))
+purse-page u = four (u .total) ++ (four (u .nt) ++ (u .next ∷ u .held ∷ last-byte (u .last) ∷ replicate 5 0))
+
+abbrev pub purse-in : List ℕ → Last → Purse
+purse-in page last = record { total = total-in page; nt = nt-in page; next = next-in page; held = held-in page; last = last }
 
 -- the purse in a page; none where last is no code of one, or a fixed 00 is missing
 abbrev pub purse-of : List ℕ → Option Purse
-purse-of page =
-    and-then (last-of (last-in page)) (λ last.
-    only-if (all-zero (part 11 5 page))
-    (Some (record { total = total-in page; number = number-in page; next = next-in page; held = held-in page; last = last })))
+purse-of page = and-then (last-of (last-in page)) (λ last. only-if (all-zero (part 11 5 page)) (Some (purse-in page last)))
 
 -- the slot of the newest record; where nothing is held there is none
 abbrev pub newest-slot : Purse → Option ℕ

@@ -5,9 +5,10 @@ use mathlib.Core.Logic.{_⊎_}
 use mathlib.Core.List.{List}
 use Prim.Native.Nat.{ℕ, _+_, _%_, _<_, _≤_}
 use lib.ListN.{length}
-use Rattle.card.specs.Bytes.{byte, part, word-at}
+use Rattle.card.specs.Bytes.{byte, part}
 use Rattle.card.specs.Limits.{limit-in}
-use Rattle.card.specs.Purse.{total-in, number-in, next-in, held-in, last-in}
+use Rattle.card.specs.Purse.{total-in, nt-in, next-in, held-in, last-in}
+use Rattle.card.specs.Record.{record-kind-in, record-nt-in, record-amount-in, record-total-in}
 use Rattle.card.specs.Pages.{Pages, page, slot-bytes}
 
 -- nothing but 00
@@ -34,11 +35,11 @@ pub record Purse-kept (one two : List ℕ) : Type 0 where
 -- the newest record, against page 2: kind 20 for last 01 and 22 for last 02, the current total, an NT that is at most that of page 2,
 -- and for last 01 an amount that is at most the total
 pub record Newest-kept (two rec : List ℕ) : Type 0 where
-  pub ride : last-in two ≡ 0x01 → byte rec 0 ≡ 0x20
-  pub cancel : last-in two ≡ 0x02 → byte rec 0 ≡ 0x22
-  pub total : word-at 28 rec ≡ total-in two
-  pub number : word-at 1 rec ≤ number-in two
-  pub amount : last-in two ≡ 0x01 → word-at 5 rec ≤ total-in two
+  pub ride : last-in two ≡ 0x01 → record-kind-in rec ≡ 0x20
+  pub cancel : last-in two ≡ 0x02 → record-kind-in rec ≡ 0x22
+  pub total : record-total-in rec ≡ total-in two
+  pub nt : record-nt-in rec ≤ nt-in two
+  pub amount : last-in two ≡ 0x01 → record-amount-in rec ≤ total-in two
 
 -- the bytes of the newest record, in slot (next + 9) mod 10
 abbrev pub newest-bytes : Pages → List ℕ
@@ -50,7 +51,7 @@ pub record Is-card (p : Pages) : Type 0 where
   pub header : Header-kept (page p 0)
   pub limits : Zeros (part 8 8 (page p 1))
   pub purse : Purse-kept (page p 1) (page p 2)
-  pub reserved : Zeros (page p 11)
+  pub unused : Zeros (page p 11)
   pub newest : 0 < held-in (page p 2) → Newest-kept (page p 2) (newest-bytes p)
 
 -- the test answers true exactly where the fact holds

@@ -10,7 +10,7 @@ use Rattle.card.specs.Header.{header-page}
 use Rattle.card.specs.Limits.{limits-page}
 
 abbrev pub sample-header : Header
-sample-header = record { life = InUse; block = Free; algorithm = 0x00; version = 0x01; center = 0x01; idep = 0x10 ∷ 0x10 ∷ 0x00 ∷ 0x00 ∷ 0x00 ∷ 0x00 ∷ 0x00 ∷ 0x01 ∷ [] }
+sample-header = record { life = InUse; block = Free; algorithm = 0x00; version = 0x01; idcenter = 0x01; idep = 0x10 ∷ 0x10 ∷ 0x00 ∷ 0x00 ∷ 0x00 ∷ 0x00 ∷ 0x00 ∷ 0x01 ∷ [] }
 
 abbrev pub sample-limits : Limits
 sample-limits = record { ceiling = 3000; limit = 500000 }

@@ -4,7 +4,7 @@ ghost use lib.ListN.{length};
 ghost use Rattle.card.specs.Bytes.{all-zero, word-at};
 
 // Whether there is nothing but 00.
-pub fn all_zero(bytes: &[u8]) -> bool
+pub(crate) fn all_zero(bytes: &[u8]) -> bool
     ensures { λ r. ⌜ r ≡ all-zero (now (bytes .entry)) ⌝ }
 {
     for b in bytes {
@@ -16,7 +16,7 @@ pub fn all_zero(bytes: &[u8]) -> bool
 }
 
 // The number whose four bytes, highest first, stand at `at`.
-pub fn word_at(bytes: &[u8], at: usize) -> u32
+pub(crate) fn word_at(bytes: &[u8], at: usize) -> u32
     requires { ⌜ at + 4 ≤ length (now bytes) ⌝ }
     ensures { λ r. ⌜ r ≡ word-at at (now (bytes .entry)) ⌝ }
 {

@@ -1,25 +1,24 @@
 ghost use mathlib.Core.Path.{_≡_};
-ghost use Prim.Native.Nat.{ℕ};
-ghost use lib.ListN.{length};
 ghost use Rattle.card.specs.Codec.{Round-trip};
 ghost use Rattle.card.specs.Header.{life-cycle-byte, life-cycle-of, block-flag-byte, block-flag-of, header-page, header-of};
 use crate::bytes::all_zero;
 
-// Whether the card is before its first use or in use.
-#[derive(Clone, Copy, PartialEq, Eq, Debug)]
+// Whether the card is before use or in use. Before use it takes no transaction.
+#[derive(Clone, Copy)]
 pub enum LifeCycle {
     BeforeUse,
     InUse,
 }
 
-#[derive(Clone, Copy, PartialEq, Eq, Debug)]
+// Whether the card is blocked. It then serves SELECT FILE, GET CHALLENGE and UNBLOCK alone.
+#[derive(Clone, Copy)]
 pub enum BlockFlag {
     Free,
     Blocked,
 }
 
 // What page 0 holds.
-#[derive(Clone, Copy, PartialEq, Eq, Debug)]
+#[derive(Clone, Copy)]
 pub struct Header {
     pub life: LifeCycle,
     pub block: BlockFlag,
@@ -27,8 +26,8 @@ pub struct Header {
     pub algorithm: u8,
     // VK, the key version
     pub version: u8,
-    // IDCENTER, the issuing center
-    pub center: u8,
+    // IDCENTER, the issuing centre
+    pub idcenter: u8,
     // IDEP, the card number
     pub idep: [u8; 8],
 }
@@ -92,33 +91,29 @@ impl Header {
             block,
             algorithm: page[2],
             version: page[3],
-            center: page[4],
+            idcenter: page[4],
             idep,
         })
+    }
+
+    // The bytes of page 0.
+    fn to_bytes(self) -> [u8; 16]
+        ensures { λ r. ⌜ r ≡ header-page self ⌝ }
+    {
+        let mut page = [0; 16];
+        page[0] = self.life.byte();
+        page[1] = self.block.byte();
+        page[2] = self.algorithm;
+        page[3] = self.version;
+        page[4] = self.idcenter;
+        page[8..16].copy_from_slice(&self.idep);
+        page
     }
 
     pub fn encode(self) -> [u8; 16]
         ensures page { λ r. ⌜ r ≡ header-page self ⌝ }
         ensures back { λ _. ⌜ Round-trip 16 header-page header-of self ⌝ }
     {
-        let n = self.idep;
-        [
-            self.life.byte(),
-            self.block.byte(),
-            self.algorithm,
-            self.version,
-            self.center,
-            0,
-            0,
-            0,
-            n[0],
-            n[1],
-            n[2],
-            n[3],
-            n[4],
-            n[5],
-            n[6],
-            n[7],
-        ]
+        self.to_bytes()
     }
 }

@@ -6,7 +6,7 @@ ghost use Rattle.card.specs.Calls.{host-number};
 pub enum HostRefusal {
     // The memory has under 32 pages.
     TooFewPages,
-    // The issue record has not 192 bytes, or would not give a card that holds no record.
+    // The issue record is not 192 bytes, or would not give a card that holds 0 records.
     WrongRecord,
     // One of the pages that issue writes is worn.
     WornPage,

@@ -5,7 +5,7 @@ use crate::bytes::all_zero;
 use crate::bytes::word_at;
 
 // What page 1 holds, in whole won: the most that a ride may cost, and the most that the total may be.
-#[derive(Clone, Copy, PartialEq, Eq, Debug)]
+#[derive(Clone, Copy)]
 pub struct Limits {
     pub ceiling: u32,
     pub limit: u32,
@@ -25,29 +25,20 @@ impl Limits {
         })
     }
 
+    // The bytes of page 1.
+    fn to_bytes(self) -> [u8; 16]
+        ensures { λ r. ⌜ r ≡ limits-page self ⌝ }
+    {
+        let mut page = [0; 16];
+        page[0..4].copy_from_slice(&self.ceiling.to_be_bytes());
+        page[4..8].copy_from_slice(&self.limit.to_be_bytes());
+        page
+    }
+
     pub fn encode(self) -> [u8; 16]
         ensures page { λ r. ⌜ r ≡ limits-page self ⌝ }
         ensures back { λ _. ⌜ Round-trip 16 limits-page limits-of self ⌝ }
     {
-        let c = self.ceiling.to_be_bytes();
-        let l = self.limit.to_be_bytes();
-        [
-            c[0],
-            c[1],
-            c[2],
-            c[3],
-            l[0],
-            l[1],
-            l[2],
-            l[3],
-            0,
-            0,
-            0,
-            0,
-            0,
-            0,
-            0,
-            0,
-        ]
+        self.to_bytes()
     }
 }

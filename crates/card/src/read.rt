@@ -1,9 +1,9 @@
 ghost use mathlib.Core.Path.{_≡_};
-ghost use mathlib.Core.List.{[], _++_};
-ghost use Prim.Native.Nat.{ℕ, _+_, _*_, _<_, _≤_};
+ghost use mathlib.Core.List.{_++_};
+ghost use Prim.Native.Nat.{_<_, _≤_};
 ghost use lib.ListN.{length};
 ghost use Rattle.std.specs.Options.{isSome};
-ghost use Rattle.card.specs.Card.{last-fits, purse-fits, kind-fits, amount-fits, newest-fits, front-of, with-newest, card-of};
+ghost use Rattle.card.specs.Card.{last-fits, purse-fits, kind-fits, amount-fits, newest-fits, first-pages-of, view-with, with-newest, card-of};
 ghost use Rattle.card.specs.Pages.{page as page-of, slot-bytes};
 ghost use Rattle.card.specs.Purse.{newest-slot};
 ghost use Rattle.card.specs.Rule.{Is-card, Decides};
@@ -15,7 +15,7 @@ use crate::purse::Purse;
 use crate::record::Kind;
 use crate::record::Record;
 use crate::view::CardView;
-use crate::view::Front;
+use crate::view::FirstPages;
 use memory::Memory;
 
 // A page that is there.
@@ -50,7 +50,7 @@ fn slot_at<M: Memory>(memory: &M, slot: u8) -> [u8; 32]
 }
 
 impl Last {
-    // Whether this is last where so many records are held.
+    // Whether this value of last is allowed where `held` records are held.
     fn fits(self, held: u8) -> bool
         ensures { λ r. ⌜ r ≡ last-fits held self ⌝ }
     {
@@ -113,17 +113,22 @@ impl Purse {
         if newest.total != self.total {
             return false;
         }
-        if newest.number > self.number {
+        if newest.nt > self.nt {
             return false;
         }
         self.last.fits_amount(newest.amount, self.total)
     }
 }
 
-impl Front {
+impl FirstPages {
     // What pages 0, 1 and 2 hold, where they and page 11 keep their rules.
-    pub fn decode(zero: [u8; 16], one: [u8; 16], two: [u8; 16], eleven: [u8; 16]) -> Option<Front>
-        ensures { λ r. ⌜ r ≡ front-of zero one two eleven ⌝ }
+    pub(crate) fn decode(
+        zero: [u8; 16],
+        one: [u8; 16],
+        two: [u8; 16],
+        eleven: [u8; 16],
+    ) -> Option<FirstPages>
+        ensures { λ r. ⌜ r ≡ first-pages-of zero one two eleven ⌝ }
     {
         let header = Header::decode(zero)?;
         let limits = Limits::decode(one)?;
@@ -134,11 +139,22 @@ impl Front {
         if !purse.fits(&limits) {
             return None;
         }
-        Some(Front {
+        Some(FirstPages {
             header,
             limits,
             purse,
         })
+    }
+
+    fn with(&self, newest: Option<Record>) -> CardView
+        ensures { λ r. ⌜ r ≡ view-with (now (self .entry)) newest ⌝ }
+    {
+        CardView {
+            header: self.header,
+            limits: self.limits,
+            purse: self.purse,
+            newest,
+        }
     }
 
     // The card with its newest record, where one is held.
@@ -147,23 +163,13 @@ impl Front {
         ensures { λ r. ⌜ r ≡ with-newest (newest-slot (now (self .entry) .purse)) (now (self .entry)) (pages (now (memory .entry))) ⌝ }
     {
         match self.purse.newest_slot() {
-            None => Some(CardView {
-                header: self.header,
-                limits: self.limits,
-                purse: self.purse,
-                newest: None,
-            }),
+            None => Some(self.with(None)),
             Some(slot) => {
                 let newest = Record::decode(slot_at(memory, slot))?;
                 if !self.purse.fits_newest(&newest) {
                     return None;
                 }
-                Some(CardView {
-                    header: self.header,
-                    limits: self.limits,
-                    purse: self.purse,
-                    newest: Some(newest),
-                })
+                Some(self.with(Some(newest)))
             }
         }
     }
@@ -177,13 +183,13 @@ impl CardView {
         if memory.count() < 32 {
             return None;
         }
-        let front = Front::decode(
+        let first = FirstPages::decode(
             page_at(memory, 0),
             page_at(memory, 1),
             page_at(memory, 2),
             page_at(memory, 11),
         )?;
-        front.with_newest(memory)
+        first.with_newest(memory)
     }
 }
 

@@ -3,18 +3,19 @@ ghost use Rattle.card.specs.Codec.{Round-trip};
 ghost use Rattle.card.specs.Record.{kind-byte, kind-of, record-bytes, record-of};
 use crate::bytes::word_at;
 
-#[derive(Clone, Copy, PartialEq, Eq, Debug)]
+// What a record of the log tells of. A repeat has no record.
+#[derive(Clone, Copy)]
 pub enum Kind {
     Ride,
     Cancel,
 }
 
 // A record of the log.
-#[derive(Clone, Copy, PartialEq, Eq, Debug)]
+#[derive(Clone, Copy)]
 pub struct Record {
     pub kind: Kind,
     // NT, the transaction number
-    pub number: u32,
+    pub nt: u32,
     // M, in whole won
     pub amount: u32,
     // the terminal's number
@@ -59,7 +60,7 @@ impl Record {
         time.copy_from_slice(&bytes[21..28]);
         Some(Record {
             kind,
-            number: word_at(&bytes, 1),
+            nt: word_at(&bytes, 1),
             amount: word_at(&bytes, 5),
             idsam,
             ntsam: word_at(&bytes, 17),
@@ -68,49 +69,25 @@ impl Record {
         })
     }
 
+    // The 32 bytes, written from the last field to the first.
+    fn to_bytes(self) -> [u8; 32]
+        ensures { λ r. ⌜ r ≡ record-bytes self ⌝ }
+    {
+        let mut bytes = [0; 32];
+        bytes[28..32].copy_from_slice(&self.total.to_be_bytes());
+        bytes[21..28].copy_from_slice(&self.time);
+        bytes[17..21].copy_from_slice(&self.ntsam.to_be_bytes());
+        bytes[9..17].copy_from_slice(&self.idsam);
+        bytes[5..9].copy_from_slice(&self.amount.to_be_bytes());
+        bytes[1..5].copy_from_slice(&self.nt.to_be_bytes());
+        bytes[0] = self.kind.byte();
+        bytes
+    }
+
     pub fn encode(self) -> [u8; 32]
         ensures bytes { λ r. ⌜ r ≡ record-bytes self ⌝ }
         ensures back { λ _. ⌜ Round-trip 32 record-bytes record-of self ⌝ }
     {
-        let n = self.number.to_be_bytes();
-        let a = self.amount.to_be_bytes();
-        let s = self.idsam;
-        let c = self.ntsam.to_be_bytes();
-        let d = self.time;
-        let t = self.total.to_be_bytes();
-        [
-            self.kind.byte(),
-            n[0],
-            n[1],
-            n[2],
-            n[3],
-            a[0],
-            a[1],
-            a[2],
-            a[3],
-            s[0],
-            s[1],
-            s[2],
-            s[3],
-            s[4],
-            s[5],
-            s[6],
-            s[7],
-            c[0],
-            c[1],
-            c[2],
-            c[3],
-            d[0],
-            d[1],
-            d[2],
-            d[3],
-            d[4],
-            d[5],
-            d[6],
-            t[0],
-            t[1],
-            t[2],
-            t[3],
-        ]
+        self.to_bytes()
     }
 }

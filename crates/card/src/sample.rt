@@ -2,12 +2,11 @@ ghost use mathlib.Core.Path.{_≡_};
 ghost use Rattle.card.specs.Issue.{Issuable};
 ghost use Rattle.card.specs.Sample.{sample-source};
 
-// The issue record of the sample card: in use and free, ALG 00, VK 01, IDCENTER 01, IDEP 10 10 00 00 00 00 00 01, ride ceiling 3,000,
+// The bytes of the sample card's issue record: in use and free, ALG 00, VK 01, IDCENTER 01, IDEP 10 10 00 00 00 00 00 01, ride ceiling 3,000,
 // total limit 500,000, every key byte 01, all else 00. A line for each of pages 0 to 11.
 #[rattlefmt::skip]
-pub fn sample_record() -> [u8; 192]
-    ensures bytes { λ r. ⌜ r ≡ sample-source ⌝ }
-    ensures issuable { λ _. ⌜ Issuable sample-source ⌝ }
+fn sample_bytes() -> [u8; 192]
+    ensures { λ r. ⌜ r ≡ sample-source ⌝ }
 {
     [
         0x07, 0x00, 0x00, 0x01, 0x01, 0x00, 0x00, 0x00, 0x10, 0x10, 0x00, 0x00, 0x00, 0x00, 0x00, 0x01,
@@ -23,4 +22,12 @@ pub fn sample_record() -> [u8; 192]
         0x01, 0x01, 0x01, 0x01, 0x01, 0x01, 0x01, 0x01, 0x01, 0x01, 0x01, 0x01, 0x01, 0x01, 0x01, 0x01,
         0x00, 0x00, 0x00, 0x00, 0x00, 0x00, 0x00, 0x00, 0x00, 0x00, 0x00, 0x00, 0x00, 0x00, 0x00, 0x00,
     ]
+}
+
+// The issue record of the sample card, which issue takes.
+pub fn sample_record() -> [u8; 192]
+    ensures bytes { λ r. ⌜ r ≡ sample-source ⌝ }
+    ensures issuable { λ _. ⌜ Issuable sample-source ⌝ }
+{
+    sample_bytes()
 }

@@ -5,7 +5,7 @@ use crate::record::Record;
 
 // What pages 0, 1 and 2 hold.
 #[derive(Clone, Copy)]
-pub struct Front {
+pub struct FirstPages {
     pub header: Header,
     pub limits: Limits,
     pub purse: Purse,

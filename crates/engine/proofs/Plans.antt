@@ -1,14 +1,17 @@
 -- Laws of the plan of issue.
 use mathlib.Core.Path.{_≡_, refl, sym, ap, _∙_, subst}
-use mathlib.Core.Bool.{Bool, true, false, cond}
+use mathlib.Core.Bool.{Bool, true, false, cond, not}
+use mathlib.Core.Logic.{⊎-elim}
 use mathlib.Core.List.{List, [], _∷_, _++_, map, append-assoc}
 use Prim.Native.Nat.{ℕ, zero, suc, _+_, _/_, _<_, _≤_}
 use native.Mathlib.Omega.{arith}
-use lib.Dec.{ltb}
 use lib.ListN.{length, set, take, drop, replicate}
 use borrow.Author.Tests.{lt-ltb, le-ltb}
+use Rattle.std.proofs.shelf.Tests.{cases-eq, ltb-false}
+use lib.Dec.{ltb}
 use Rattle.std.proofs.shelf.Lists.{take-append-drop, take-more-set, drop-set-lt, length-set}
 use Rattle.std.specs.Iters.{counting}
+use Rattle.std.specs.Results.{isOk}
 use Rattle.std.specs.declared.result.Result.{Result}
 use Rattle.std.specs.declared.result.Result.the-variants.{Ok, Err}
 use Rattle.memory.specs.declared.fault.Fault.{Fault}
@@ -18,10 +21,10 @@ use Rattle.memory.specs.ImagePages.{page-at, pages-of}
 use Rattle.memory.specs.Plan.{Above, Rising, Off, plan-answer, written, PlanWritten}
 use Rattle.card.specs.declared.host.HostRefusal.{HostRefusal}
 use Rattle.card.specs.declared.host.HostRefusal.the-variants.{TooFewPages, WrongRecord, WornPage}
-use Rattle.card.specs.Calls.{any-worn, issue-answer}
+use Rattle.card.specs.Calls.{any-worn, issue-answer, Issue-taken}
 use Rattle.card.specs.Issue.{issued, issuable, Issuable}
-use Rattle.card.specs.Rule.{Is-card}
-use Rattle.card.proofs.Issues.{issued-card}
+use Rattle.card.specs.Rule.{Is-card, Decides}
+use Rattle.card.proofs.Issues.{issued-card, issue-decides as record-decides}
 use Rattle.engine.specs.Plan.{issue-page, issue-write, issue-plan}
 
 -- each page once, lowest first
@@ -71,7 +74,7 @@ written-run s a (suc n) ps h =
     ∙ ap (λ d. take a ps ++ (x ∷ (m ++ d))) (drop-set-lt (a + 1 + n) ps a x (omega arith) ∙ ap (λ k. drop k ps) e)
 
 issue-written : (s : List ℕ) (ps : List (List ℕ)) → length s ≡ 192 → 32 ≤ length ps → written (issue-plan s) ps ≡ issued s ps
-unfolding issue-plan issue-page issued pages-of
+unfolding issue-plan issued pages-of
 issue-written s ps size h =
     let e : length s / 16 ≡ 12 = omega arith in
     written-run s 0 32 ps h
@@ -95,7 +98,44 @@ by-worn false f e = (cc, cc)
 reached : (n : ℕ) (w : ℕ → Bool) (s : List ℕ) → 32 ≤ n → issuable s ≡ true → cond (any-worn w (counting 0 32)) (Err WornPage) (Ok tt) ≡ issue-answer n w s
 reached n w s h f =
     let last : Answer = cond (any-worn w (counting 0 32)) (Err WornPage) (Ok tt) in
-    sym (ap (λ b. cond b (Err TooFewPages) (cond (issuable s) last (Err WrongRecord))) (le-ltb n 32 h) ∙ ap (λ b. cond b last (Err WrongRecord)) f)
+    sym (ap (λ b. cond b (Err TooFewPages) (cond (not (issuable s)) (Err WrongRecord) last)) (le-ltb n 32 h) ∙ ap (λ b. cond (not b) (Err WrongRecord) last) f)
+
+-- the answer decides whether issue takes the record
+either-worn : (x y : Bool) → cond x true y ≡ false → (x ≡ false) × (y ≡ false)
+either-worn true y e = (cc, cc)
+either-worn false y e = (refl, e)
+
+none-worn : (w : ℕ → Bool) (a n : ℕ) → any-worn w (counting a n) ≡ false → (k : ℕ) → a ≤ k → k < a + n → w k ≡ false
+none-worn w a zero e k l h = absurd (omega arith)
+none-worn w a (suc n) e k l h =
+    let p = either-worn (w a) (any-worn w (counting (a + 1) n)) e in
+    ⊎-elim (λ same. ap w same ∙ p .0) (λ ne. none-worn w (a + 1) n (p .1) k (omega arith) (omega arith)) (cases-eq k a)
+
+all-writable : (w : ℕ → Bool) (a n : ℕ) → ((k : ℕ) → k < a + n → w k ≡ false) → any-worn w (counting a n) ≡ false
+all-writable w a zero f = refl
+all-writable w a (suc n) f =
+    ap (λ x. cond x true (any-worn w (counting (a + 1) n))) (f a (omega arith)) ∙ all-writable w (a + 1) n (λ k h. f k (omega arith))
+
+-- the three tests one after the other, as `issue-answer` has them
+abbrev tested : Bool → Bool → Bool → Answer
+tested few fits worn = cond few (Err TooFewPages) (cond (not fits) (Err WrongRecord) (cond worn (Err WornPage) (Ok tt)))
+
+taken-parts : (few fits worn : Bool) → isOk (tested few fits worn) ≡ true → (few ≡ false) × (fits ≡ true) × (worn ≡ false)
+taken-parts true fits worn e = (cc, cc, cc)
+taken-parts false true true e = (cc, cc, cc)
+taken-parts false true false e = (refl, refl, refl)
+taken-parts false false worn e = (cc, cc, cc)
+
+pub issue-decides : (n : ℕ) (w : ℕ → Bool) (s : List ℕ) (r : Answer) → r ≡ issue-answer n w s → Decides (isOk r) (Issue-taken n w s)
+issue-decides n w s r e =
+    let P : Answer → Type 0 = λ x. Decides (isOk x) (Issue-taken n w s) in
+    let rule = record-decides s (issuable s) refl in
+    subst P (sym e) (record {
+      sound = λ t.
+          let p = taken-parts (ltb n 32) (issuable s) (any-worn w (counting 0 32)) t in
+          record { room = ltb-false n 32 (p .0); fits = rule .sound (p .1); writable = λ k h. none-worn w 0 32 (p .2) k (omega arith) (omega arith) };
+      complete = λ k. ap isOk (sym (reached n w s (k .room) (rule .complete (k .fits))) ∙ ap (λ x. cond x (Err WornPage) (Ok tt)) (all-writable w 0 32 (k .writable)));
+    })
 
 -- what writing the plan comes to
 module _ (s : List ℕ) (ps ps′ : List (List ℕ)) (w w′ : ℕ → Bool) (plan : List PageWrite) (same : plan ≡ issue-plan s) (room : 32 ≤ length ps) (good : issuable s ≡ true) where

@@ -9,7 +9,7 @@ use Rattle.memory.specs.declared.plan.PageWrite.{PageWrite}
 use Rattle.memory.specs.ImagePages.{page-at}
 
 -- page k of a card as issued: of the record up to page 11, then zeros
-unfoldable pub issue-page : List ℕ → ℕ → List ℕ
+abbrev pub issue-page : List ℕ → ℕ → List ℕ
 issue-page source k = cond (ltb k 12) (page-at source k) (replicate 16 0)
 
 abbrev pub issue-write : List ℕ → ℕ → PageWrite

@@ -17,7 +17,12 @@ use Rattle.memory.specs.declared.fault.Fault.{Fault}
 use Rattle.memory.specs.declared.fault.Fault.the-variants.{PastEnd, Worn}
 use Rattle.memory.specs.declared.plan.PageWrite.{PageWrite}
 use Rattle.memory.specs.Pages.{mark-answer, write-answer, Written}
-use Rattle.memory.specs.Plan.{Above, Rising, Off, Apart, plan-answer, written, planned, PlanWritten, Placed}
+use Rattle.memory.specs.Plan.{Above, Rising, Off, plan-answer, written, planned, PlanWritten, Placed}
+
+-- the plan names no page twice
+abbrev pub Apart : List PageWrite → Type 0
+Apart [] = Unit {0}
+Apart (e ∷ es) = Off es (e .page) × Apart es
 
 -- A rising plan has no page twice.
 above-off : (n k : ℕ) (es : List PageWrite) → k ≤ n → Above n es → Off es k
@@ -33,7 +38,7 @@ rising-apart [] a = tt
 rising-apart (e ∷ es) a = (above-off (e .page) (e .page) es (omega arith) a, rising-apart es (rising-rest e es a))
 
 -- what stands past a plan's end
-abbrev no-write : PageWrite
+abbrev pub no-write : PageWrite
 no-write = record { page = 0; bytes = [] }
 
 -- entry i of a plan

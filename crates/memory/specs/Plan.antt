@@ -1,7 +1,7 @@
 -- A plan is a list of pages to be written. Each entry has a page's number and the bytes for that page.
 use mathlib.Core.Path.{_≡_}
 use mathlib.Core.List.{List, [], _∷_}
-use mathlib.Core.Bool.{Bool, cond, false}
+use mathlib.Core.Bool.{Bool, cond}
 use Prim.Native.Nat.{ℕ, _<_}
 use lib.Dec.{ltb, eqb}
 use lib.ListN.{length, getD, set}
@@ -26,11 +26,6 @@ Rising (e ∷ es) = Above (e .page) es
 abbrev pub Off : List PageWrite → ℕ → Type 0
 Off [] k = Unit {0}
 Off (e ∷ es) k = (e .page ≡ k → ⊥) × Off es k
-
--- the plan names no page twice
-abbrev pub Apart : List PageWrite → Type 0
-Apart [] = Unit {0}
-Apart (e ∷ es) = Off es (e .page) × Apart es
 
 -- what a plan answers in a memory of `count` pages: the refusal of its first page that cannot be written, else that it is done
 abbrev pub plan-answer : ℕ → (ℕ → Bool) → List PageWrite → Result (Unit {0}) Fault

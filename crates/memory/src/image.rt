@@ -70,12 +70,12 @@ pub impl<'a> Memory for Image<'a> as ImageMemory {
         Ok(false)
     }
 
-    // No page wears: only a page that is not there is refused, and every page stays open.
+    // No page wears: a write is refused only where there is no such page.
     fn write(&mut self, page: usize, bytes: [u8; 16]) -> Result<(), Fault>
         ensures written { λ r. ⌜ Written (pages-of (now (now (self .entry) .bytes))) never-worn page bytes r (pages-of (now (now (self .exit) .bytes))) never-worn ⌝ }
         ensures outside { λ _. ⌜ image-outside (name (now (self .exit) .bytes)) (now (now (self .exit) .bytes)) ≡ image-outside (name (now (self .entry) .bytes)) (now (now (self .entry) .bytes)) ⌝ }
         ensures refused { λ r. ⌜ (isOk r ≡ false → now (self .exit) ≡ now (self .entry)) ⌝ }
-        ensures stays_open { λ r. ⌜ r ≡ open-answer (length (pages-of (now (now (self .entry) .bytes)))) page ⌝ }
+        ensures never_worn { λ r. ⌜ r ≡ open-answer (length (pages-of (now (now (self .entry) .bytes)))) page ⌝ }
     {
         if page >= self.count() {
             return Err(Fault::PastEnd);

@@ -59,7 +59,8 @@ pub impl Memory for Wearing as WearingMemory {
         Ok(self.left[page] == 0)
     }
 
-    // The count of the page that is written falls by one, and no other count changes; at a refusal none does.
+    // The last clause is this kind's own: the count of the page that is written falls by one, and no other count changes; at a refusal
+    // none does. The clauses before it are the trait's.
     fn write(&mut self, page: usize, bytes: [u8; 16]) -> Result<(), Fault>
         ensures written { λ r. ⌜ Written (now (self .entry) .pages) (spent (now (self .entry) .left)) page bytes r (now (self .exit) .pages) (spent (now (self .exit) .left)) ⌝ }
         ensures outside { λ _. ⌜ none-outside ≡ none-outside ⌝ }
