@@ -16,20 +16,18 @@ use Rattle.card.specs.declared.header.LifeCycle.the-variants.{BeforeUse, InUse
 use Rattle.card.specs.declared.header.BlockFlag.{BlockFlag}
 use Rattle.card.specs.declared.header.BlockFlag.the-variants.{Free, Blocked}
 use Rattle.card.specs.declared.header.Header.{Header}
-use Rattle.card.specs.declared.limits.Limits.{Limits}
 use Rattle.card.specs.declared.purse.Last.{Last}
 use Rattle.card.specs.declared.purse.Last.the-variants.{Nothing, Ride, Cancel}
 use Rattle.card.specs.declared.purse.Purse.{Purse}
 use Rattle.card.specs.declared.record.Kind.{Kind}
 use Rattle.card.specs.declared.record.Kind.the-variants.{Ride as ride-kind, Cancel as cancel-kind}
-use Rattle.card.specs.declared.record.Record.{Record}
 use Rattle.card.specs.declared.view.FirstPages.{FirstPages}
 use Rattle.card.specs.declared.view.CardView.{CardView}
 use Rattle.card.specs.Bytes.{byte, part, word-at, all-zero}
 use Rattle.card.specs.Options.{only-if}
 use Rattle.card.specs.Header.{life-cycle-of, block-flag-of, header-in, header-of}
 use Rattle.card.specs.Limits.{limit-in, limits-in}
-use Rattle.card.specs.Purse.{last-byte, last-of, total-in, nt-in, next-in, held-in, last-in, purse-in, newest-slot}
+use Rattle.card.specs.Purse.{last-byte, last-of, total-in, next-in, held-in, last-in, purse-in, newest-slot}
 use Rattle.card.specs.Record.{kind-byte, kind-of, record-in, record-of}
 use Rattle.card.specs.Pages.{Pages, page, slot-bytes}
 use Rattle.card.specs.Card.{last-fits, purse-fits, kind-fits, amount-fits, newest-fits, first-pages-of, view-with, with-newest, card-of}
