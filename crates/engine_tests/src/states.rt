@@ -5,7 +5,7 @@ use card::Session;
 use card::State;
 
 // The number of an answer, 0 where the call was accepted.
-pub fn number_of(answer: Result<(), HostRefusal>) -> u8 {
+pub(crate) fn number_of(answer: Result<(), HostRefusal>) -> u8 {
     match answer {
         Ok(()) => 0,
         Err(refusal) => refusal.number(),
@@ -13,17 +13,17 @@ pub fn number_of(answer: Result<(), HostRefusal>) -> u8 {
 }
 
 // A state that an accepted call ends and a refused one keeps.
-pub fn challenged() -> State {
+pub(crate) fn challenged() -> State {
     State {
         selection: Selection::Card,
         session: Session::Challenged(7),
     }
 }
 
-pub fn is_challenged(state: State) -> bool {
+pub(crate) fn is_challenged(state: State) -> bool {
     matches!(state.selection, Selection::Card) && matches!(state.session, Session::Challenged(7))
 }
 
-pub fn is_at_rest(state: State) -> bool {
+pub(crate) fn is_at_rest(state: State) -> bool {
     matches!(state.selection, Selection::Nothing) && matches!(state.session, Session::Quiet)
 }
