@@ -23,12 +23,12 @@ use Rattle.card.specs.declared.record.Kind.{Kind}
 use Rattle.card.specs.declared.record.Kind.the-variants.{Ride as ride-kind, Cancel as cancel-kind}
 use Rattle.card.specs.declared.view.FirstPages.{FirstPages}
 use Rattle.card.specs.declared.view.CardView.{CardView}
-use Rattle.card.specs.Bytes.{byte, part, word-at, all-zero}
+use Rattle.card.specs.Bytes.{byte, part, all-zero}
 use Rattle.card.specs.Options.{only-if}
 use Rattle.card.specs.Header.{life-cycle-of, block-flag-of, header-in, header-of}
 use Rattle.card.specs.Limits.{limit-in, limits-in}
 use Rattle.card.specs.Purse.{last-byte, last-of, total-in, next-in, held-in, last-in, purse-in, newest-slot}
-use Rattle.card.specs.Record.{kind-byte, kind-of, record-in, record-of}
+use Rattle.card.specs.Record.{kind-byte, kind-of, record-kind-in, record-amount-in, record-in, record-of}
 use Rattle.card.specs.Pages.{Pages, page, slot-bytes}
 use Rattle.card.specs.Card.{last-fits, purse-fits, kind-fits, amount-fits, newest-fits, first-pages-of, view-with, with-newest, card-of}
 use Rattle.card.specs.Rule.{Zeros, Header-kept, Purse-kept, Newest-kept, newest-bytes, Is-card, Decides}
@@ -145,19 +145,19 @@ newest-amount b amount total Nothing e f h = grind arith
 newest-amount b amount total Ride e f h = leb-true amount total f
 newest-amount b amount total Cancel e f h = grind arith
 
-newest-sound : (two xs : List ℕ) (l : Last) (k : Kind) → last-byte l ≡ last-in two → kind-of (byte xs 0) ≡ Some k → newest-fits (purse-in two l) (record-in xs k) ≡ true → Newest-kept two xs
+newest-sound : (two xs : List ℕ) (l : Last) (k : Kind) → last-byte l ≡ last-in two → kind-of (record-kind-in xs) ≡ Some k → newest-fits (purse-in two l) (record-in xs k) ≡ true → Newest-kept two xs
 newest-sound two xs l k b e f =
     let p = and-parts _ _ f in
     let q = and-parts _ _ (p .1) in
     let r = and-parts _ _ (q .1) in
-    let c = kind-written (byte xs 0) k e in
+    let c = kind-written (record-kind-in xs) k e in
     let n = newest-kinds (last-in two) l k b (p .0) in
     record {
       ride = λ h. sym c ∙ n .0 h;
       cancel = λ h. sym c ∙ n .1 h;
       total = eqb-true _ _ (q .0);
       nt = leb-true _ _ (r .0);
-      amount = newest-amount (last-in two) (word-at 5 xs) (total-in two) l b (r .1);
+      amount = newest-amount (last-in two) (record-amount-in xs) (total-in two) l b (r .1);
     }
 
 newest-known : (b c amount total : ℕ) (l : Last) → last-byte l ≡ b → (b ≡ 0x01) ⊎ (b ≡ 0x02) → (b ≡ 0x01 → c ≡ 0x20) → (b ≡ 0x02 → c ≡ 0x22) → (b ≡ 0x01 → amount ≤ total) →
@@ -168,9 +168,9 @@ newest-known b c amount total Ride e s r x a = (ride-kind, ap kind-of (r (sym e)
 newest-known b c amount total Cancel e s r x a = (cancel-kind, ap kind-of (x (sym e)), refl, refl)
 
 newest-complete : (two xs : List ℕ) (l : Last) → last-byte l ≡ last-in two → (last-in two ≡ 0x01) ⊎ (last-in two ≡ 0x02) → Newest-kept two xs →
-    (k : Kind) × (kind-of (byte xs 0) ≡ Some k) × (newest-fits (purse-in two l) (record-in xs k) ≡ true)
+    (k : Kind) × (kind-of (record-kind-in xs) ≡ Some k) × (newest-fits (purse-in two l) (record-in xs k) ≡ true)
 newest-complete two xs l b s n =
-    let k = newest-known (last-in two) (byte xs 0) (word-at 5 xs) (total-in two) l b s (n .ride) (n .cancel) (n .amount) in
+    let k = newest-known (last-in two) (record-kind-in xs) (record-amount-in xs) (total-in two) l b s (n .ride) (n .cancel) (n .amount) in
     (k .0, k .1, all-both _ _ (k .2) (all-both _ _ (eq-eqb _ _ (n .total)) (all-both _ _ (le-leb _ _ (n .nt)) (k .3))))
 
 -- The card.

@@ -137,10 +137,26 @@ issue-decides n w s r e =
       complete = λ k. ap isOk (sym (reached n w s (k .room) (rule .complete (k .fits))) ∙ ap (λ x. cond x (Err WornPage) (Ok tt)) (all-writable w 0 32 (k .writable)));
     })
 
+-- what is known where the plan is written: there is room, issue takes the record, and the plan is that of issue
+pub record Ready (s : List ℕ) (ps : List (List ℕ)) (plan : List PageWrite) : Type 0 where
+  pub room : 32 ≤ length ps
+  pub good : issuable s ≡ true
+  pub same : plan ≡ issue-plan s
+
+-- by the count that was read, the test that passed, and the plan that was made
+pub ready : (s : List ℕ) (ps : List (List ℕ)) (plan : List PageWrite) (n : ℕ) (test : Bool) → n ≡ length ps → 32 ≤ n → test ≡ issuable s → test ≡ true → plan ≡ issue-plan s → Ready s ps plan
+ready s ps plan n test counted enough is passed made = record { room = omega arith; good = sym is ∙ passed; same = made }
+
 -- what writing the plan comes to
-module _ (s : List ℕ) (ps ps′ : List (List ℕ)) (w w′ : ℕ → Bool) (plan : List PageWrite) (same : plan ≡ issue-plan s) (room : 32 ≤ length ps) (good : issuable s ≡ true) where
+module _ (s : List ℕ) (ps ps′ : List (List ℕ)) (w w′ : ℕ → Bool) (plan : List PageWrite) (facts : Ready s ps plan) where
+  abbrev room : 32 ≤ length ps
+  room = facts .room
+
+  abbrev good : issuable s ≡ true
+  good = facts .good
+
   planned : (r : Tried) → PlanWritten ps w plan r ps′ w′ → PlanWritten ps w (issue-plan s) r ps′ w′
-  planned r d = let P : List PageWrite → Type 0 = λ p. PlanWritten ps w p r ps′ w′ in subst P same d
+  planned r d = let P : List PageWrite → Type 0 = λ p. PlanWritten ps w p r ps′ w′ in subst P (facts .same) d
 
   pub above : (r : Tried) → PlanWritten ps w plan r ps′ w′ → (k : ℕ) → 32 ≤ k → w′ k ≡ w k
   above r d k h = planned r d .others k (issue-off s k h)

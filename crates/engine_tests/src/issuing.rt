@@ -55,7 +55,11 @@ fn is_accepted_on_an_image() -> Result<(), Fail> {
     check_eq(card.purse.total, 0)?;
     check_eq(card.purse.held, 0)?;
     check(card.newest.is_none())?;
-    check_eq(number_of(power_on(&image, &mut state)), 0)
+    check_eq(number_of(power_on(&image, &mut state)), 0)?;
+    // the lender finds the card in its bytes, and those past the last whole page as they were
+    check_eq(bytes[0], 0x07)?;
+    check_eq(bytes[527], 0xA5)?;
+    check_eq(bytes[532], 0xA5)
 }
 
 #[test]

@@ -1,12 +1,7 @@
-use mathlib.Core.Path.{_≡_, refl, sym, _∙_}
-use mathlib.Core.Bool.{true, false}
-use Prim.Native.Nat.{_≤_}
-use lib.ListN.{length}
-use native.Mathlib.Omega.{arith}
+use mathlib.Core.Path.{refl}
 use borrow.Author.Needs.{needs}
 use Rattle.std.proofs.shelf.Tests.{true≢false}
-use Rattle.card.specs.Issue.{issuable}
-use Rattle.engine.proofs.Plans.{issue-rising, above, ok-answer, worn-answer, only-worn, ok-pages, ok-card}
+use Rattle.engine.proofs.Plans.{issue-rising, ready, above, ok-answer, worn-answer, only-worn, ok-pages, ok-card}
 use Rattle.engine.proofs.issuing.issue_onto.Needs as need
 
 pub issue-plan-plan-requires : need.issue-plan-plan-requires
@@ -17,22 +12,19 @@ write-plan-requires g c κs = rw (c .issue-plan-plan .ensures) (issue-rising (c 
 
 pub worn-page-requires : need.worn-page-requires
 worn-page-requires g c κs =
-    let room : 32 ≤ length (g .M·Memory .pages (c .args .memory .now)) = omega arith in
-    let good : issuable (c .args .source .now) ≡ true = sym (c .is-issuable .ensures .test) ∙ c .if-not-is-issuable .left in
-    only-worn _ _ _ _ _ _ (c .issue-plan-plan .ensures) room good _ (c .in-Err .ensures tt .written)
+    let facts = ready _ _ _ _ _ (c .count .ensures) (c .if-count-lt32 .left) (c .is-issuable .ensures .test) (c .if-not-is-issuable .left) (c .issue-plan-plan .ensures) in
+    only-worn _ _ _ _ _ _ facts _ (c .in-Err .ensures tt .written)
 
 pub returns-in-Ok : need.returns-in-Ok
 returns-in-Ok g c =
-    let d = c .in-Ok .ensures tt .written in
-    let room : 32 ≤ length (g .M·Memory .pages (c .args .memory .now)) = omega arith in
-    let good : issuable (c .args .source .now) ≡ true = sym (c .is-issuable .ensures .test) ∙ c .if-not-is-issuable .left in
+    let facts = ready _ _ _ _ _ (c .count .ensures) (c .if-count-lt32 .left) (c .is-issuable .ensures .test) (c .if-not-is-issuable .left) (c .issue-plan-plan .ensures) in
+    let done = c .in-Ok .ensures tt .written in
     let rule = c .is-issuable .ensures .rule .sound (c .if-not-is-issuable .left) in
-    let same = c .issue-plan-plan .ensures in
     record {
-      answer = ok-answer _ _ _ _ _ _ same room good d;
-      pages = ok-pages _ _ _ _ _ _ same room good (rule .size) d;
-      card = λ _. ok-card _ _ _ _ _ _ same room good rule d;
-      marks-above = above _ _ _ _ _ _ same room good _ d;
+      answer = ok-answer _ _ _ _ _ _ facts done;
+      pages = ok-pages _ _ _ _ _ _ facts (rule .size) done;
+      card = λ _. ok-card _ _ _ _ _ _ facts rule done;
+      marks-above = above _ _ _ _ _ _ facts _ done;
       outside = c .write-plan .ensures .outside;
       refused = λ e. absurd (true≢false e);
       state = c .at-rest .ensures;
@@ -40,15 +32,13 @@ returns-in-Ok g c =
 
 pub returns-in-Err : need.returns-in-Err
 returns-in-Err g c =
-    let d = c .in-Err .ensures tt .written in
-    let room : 32 ≤ length (g .M·Memory .pages (c .args .memory .now)) = omega arith in
-    let good : issuable (c .args .source .now) ≡ true = sym (c .is-issuable .ensures .test) ∙ c .if-not-is-issuable .left in
-    let same = c .issue-plan-plan .ensures in
+    let facts = ready _ _ _ _ _ (c .count .ensures) (c .if-count-lt32 .left) (c .is-issuable .ensures .test) (c .if-not-is-issuable .left) (c .issue-plan-plan .ensures) in
+    let left = c .in-Err .ensures tt .written in
     record {
-      answer = worn-answer _ _ _ _ _ _ same room good _ d _ (c .worn-page .ensures);
-      pages = d .bytes;
+      answer = worn-answer _ _ _ _ _ _ facts _ left _ (c .worn-page .ensures);
+      pages = left .bytes;
       card = λ e. search needs;
-      marks-above = above _ _ _ _ _ _ same room good _ d;
+      marks-above = above _ _ _ _ _ _ facts _ left;
       outside = c .write-plan .ensures .outside;
       refused = c .in-Err .ensures tt .refused;
       state = refl;
