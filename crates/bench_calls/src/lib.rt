@@ -1,3 +1,5 @@
+#![tactic(auto)]
+
 // The calls that the benchmark makes from C: one block by each cipher, and the seal of a message.
 ghost use Rattle.std.specs.Prelude.{◌≡◌, ◌≤◌, length};
 ghost use Rattle.bench_calls.specs.Calls.{answer, widened, takes_block, takes_message, block_after, seal_after};
@@ -25,8 +27,8 @@ fn widen(block: &[u8]) -> [u8; 16]
 
 // Enciphers the block where it stands.
 fn encipher<C: Cipher>(key: &[u8], block: &mut [u8]) -> u8
-    ensures number { result ≡ answer (takes_block size key.now block.old) }
-    ensures after { block.new ≡ block_after enciphered size key.now block.old }
+    ensures number { result ≡ answer (takes_block C.size key.now block.old) }
+    ensures after { block.new ≡ block_after C.enciphered C.size key.now block.old }
 {
     if key.len() != 16 || block.len() != C::block_size() {
         return REFUSED;

@@ -1,3 +1,5 @@
+#![tactic(auto)]
+
 // A card as its memory holds it: codecs of its pages and records, when pages are a card, and which records can be issued.
 mod bytes;
 mod header;

@@ -14,8 +14,8 @@ use memory::Memory;
 
 // A page that is there.
 pub fn page_at<M: Memory>(memory: &M, page: usize) -> [u8; 16]
-    requires { page < length (pages memory.now) }
-    ensures { result ≡ page_of (pages memory.now) page }
+    requires { page < length (M.pages memory.now) }
+    ensures { result ≡ page_of (M.pages memory.now) page }
 {
     match memory.read(page) {
         Ok(bytes) => bytes,
@@ -35,8 +35,8 @@ fn joined(first: [u8; 16], second: [u8; 16]) -> [u8; 32]
 
 // The 32 bytes of a slot of the log.
 fn slot_at<M: Memory>(memory: &M, slot: u8) -> [u8; 32]
-    requires { (32 ≤ length (pages memory.now)) × (slot < 10) }
-    ensures { result ≡ slot_bytes (pages memory.now) slot }
+    requires { (32 ≤ length (M.pages memory.now)) × (slot < 10) }
+    ensures { result ≡ slot_bytes (M.pages memory.now) slot }
 {
     let first = 12 + 2 * usize::from(slot);
     let second = 13 + 2 * usize::from(slot);
@@ -153,8 +153,8 @@ impl FirstPages {
 
     // The card with its newest record, where one is held.
     fn with_newest<M: Memory>(&self, memory: &M) -> Option<CardView>
-        requires { 32 ≤ length (pages memory.now) }
-        ensures { result ≡ with_newest (newest_slot self.now.purse) self.now (pages memory.now) }
+        requires { 32 ≤ length (M.pages memory.now) }
+        ensures { result ≡ with_newest (newest_slot self.now.purse) self.now (M.pages memory.now) }
     {
         match self.purse.newest_slot() {
             None => Some(self.with(None)),
@@ -172,7 +172,7 @@ impl FirstPages {
 impl CardView {
     // The card that the pages of a memory are.
     fn decode<M: Memory>(memory: &M) -> Option<CardView>
-        ensures { result ≡ card_of (pages memory.now) }
+        ensures { result ≡ card_of (M.pages memory.now) }
     {
         if memory.count() < 32 {
             return None;
@@ -189,8 +189,8 @@ impl CardView {
 
 // What the engine reads of the card that the pages of a memory are; none exactly where they are no card.
 pub fn read_card<M: Memory>(memory: &M) -> Option<CardView>
-    ensures value { result ≡ card_of (pages memory.now) }
-    ensures rule { Decides (is_some result) (IsCard (pages memory.now)) }
+    ensures value { result ≡ card_of (M.pages memory.now) }
+    ensures rule { Decides (is_some result) (IsCard (M.pages memory.now)) }
 {
     CardView::decode(memory)
 }

@@ -1,3 +1,5 @@
+#![tactic(auto)]
+
 // Block ciphers: what one is, and the words that the standards are written in.
 mod cipher;
 mod words;

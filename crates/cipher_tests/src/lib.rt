@@ -1,3 +1,5 @@
+#![tactic(auto)]
+
 // The ciphers and the seals tried on published vectors and on results of independent programs.
 #[cfg(test)]
 mod constant;

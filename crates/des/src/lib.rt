@@ -1,3 +1,5 @@
+#![tactic(auto)]
+
 // Triple DES with two keys, as FIPS 46-3 has it, as a block cipher.
 mod des;
 mod function;

@@ -53,11 +53,11 @@ fn issue_onto<M: Memory>(
     state: &mut State,
     source: &[u8],
 ) -> Result<(), HostRefusal>
-    ensures answer { result ≡ issue_answer (length (pages memory.old)) (worn memory.old) source.now }
-    ensures pages { pages memory.new ≡ (if is_ok result then issued source.now (pages memory.old) else pages memory.old) }
-    ensures card { is_ok result ≡ true → IsCard (pages memory.new) }
-    ensures marks_above { (k : ℕ) → 32 ≤ k → worn memory.new k ≡ worn memory.old k }
-    ensures outside { outside memory.new ≡ outside memory.old }
+    ensures answer { result ≡ issue_answer (length (M.pages memory.old)) (M.worn memory.old) source.now }
+    ensures pages { M.pages memory.new ≡ (if is_ok result then issued source.now (M.pages memory.old) else M.pages memory.old) }
+    ensures card { is_ok result ≡ true → IsCard (M.pages memory.new) }
+    ensures marks_above { (k : ℕ) → 32 ≤ k → M.worn memory.new k ≡ M.worn memory.old k }
+    ensures outside { M.outside memory.new ≡ M.outside memory.old }
     ensures refused { is_ok result ≡ false → memory.new ≡ memory.old }
     ensures state { state.new ≡ (if is_ok result then at_rest else state.old) }
 {
@@ -81,12 +81,12 @@ fn issue_onto<M: Memory>(
 // quiet then. Refused, and nothing is changed, where the memory has under 32 pages, where the issue record `source` is not 192 bytes or
 // would not give a card that holds 0 records, and where one of the 32 pages is worn, in this order.
 pub fn issue<M: Memory>(memory: &mut M, state: &mut State, source: &[u8]) -> Result<(), HostRefusal>
-    ensures answer { result ≡ issue_answer (length (pages memory.old)) (worn memory.old) source.now }
-    ensures rule { Decides (is_ok result) (IssueTaken (length (pages memory.old)) (worn memory.old) source.now) }
-    ensures pages { pages memory.new ≡ (if is_ok result then issued source.now (pages memory.old) else pages memory.old) }
-    ensures card { is_ok result ≡ true → IsCard (pages memory.new) }
-    ensures marks_above { (k : ℕ) → 32 ≤ k → worn memory.new k ≡ worn memory.old k }
-    ensures outside { outside memory.new ≡ outside memory.old }
+    ensures answer { result ≡ issue_answer (length (M.pages memory.old)) (M.worn memory.old) source.now }
+    ensures rule { Decides (is_ok result) (IssueTaken (length (M.pages memory.old)) (M.worn memory.old) source.now) }
+    ensures pages { M.pages memory.new ≡ (if is_ok result then issued source.now (M.pages memory.old) else M.pages memory.old) }
+    ensures card { is_ok result ≡ true → IsCard (M.pages memory.new) }
+    ensures marks_above { (k : ℕ) → 32 ≤ k → M.worn memory.new k ≡ M.worn memory.old k }
+    ensures outside { M.outside memory.new ≡ M.outside memory.old }
     ensures refused { is_ok result ≡ false → memory.new ≡ memory.old }
     ensures state { state.new ≡ (if is_ok result then at_rest else state.old) }
 {

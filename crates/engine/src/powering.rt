@@ -8,8 +8,8 @@ use memory::Memory;
 // Powers the card on: nothing is selected and the session is quiet then. It writes nothing.
 // Refused, and nothing is changed, where the memory has under 32 pages, and then where its pages are not a card.
 pub fn power_on<M: Memory>(memory: &M, state: &mut State) -> Result<(), HostRefusal>
-    ensures answer { result ≡ power_on_answer (pages memory.now) }
-    ensures rule { Decides (is_ok result) (IsCard (pages memory.now)) }
+    ensures answer { result ≡ power_on_answer (M.pages memory.now) }
+    ensures rule { Decides (is_ok result) (IsCard (M.pages memory.now)) }
     ensures state { state.new ≡ (if is_ok result then at_rest else state.old) }
 {
     if memory.count() < 32 {

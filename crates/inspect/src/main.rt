@@ -1,3 +1,5 @@
+#![tactic(auto)]
+
 // Issues the sample card onto three memories, powers it on where it was taken, and tells what took place.
 use card::{State, sample_record};
 use engine::{issue, power_on};

@@ -1,3 +1,5 @@
+#![tactic(auto)]
+
 // A memory is a list of 16-byte pages, each marked open or worn.
 //
 // The number of pages never changes. A question for that number, a read of a page and a question for its mark answer what the list has, and

@@ -13,7 +13,7 @@ pub struct PageWrite {
 
 // Whether every page of the plan can be written: the refusal of the first that cannot.
 fn all_open<M: Memory>(memory: &M, plan: &[PageWrite]) -> Result<(), Fault>
-    ensures { result ≡ plan_answer (length (pages memory.now)) (worn memory.now) plan.now }
+    ensures { result ≡ plan_answer (length (M.pages memory.now)) (M.worn memory.now) plan.now }
 {
     for entry in plan {
         if memory.is_worn(entry.page)? {
@@ -27,9 +27,9 @@ fn all_open<M: Memory>(memory: &M, plan: &[PageWrite]) -> Result<(), Fault>
 // it asks for every mark before the first write.
 pub fn write_plan<M: Memory>(memory: &mut M, plan: &[PageWrite]) -> Result<(), Fault>
     requires { Rising plan.now }
-    ensures written { PlanWritten (pages memory.old) (worn memory.old) plan.now result (pages memory.new) (worn memory.new) }
-    ensures places { is_ok result ≡ true → Placed (pages memory.old) plan.now (pages memory.new) }
-    ensures outside { outside memory.new ≡ outside memory.old }
+    ensures written { PlanWritten (M.pages memory.old) (M.worn memory.old) plan.now result (M.pages memory.new) (M.worn memory.new) }
+    ensures places { is_ok result ≡ true → Placed (M.pages memory.old) plan.now (M.pages memory.new) }
+    ensures outside { M.outside memory.new ≡ M.outside memory.old }
     ensures refused { is_ok result ≡ false → memory.new ≡ memory.old }
 {
     all_open(memory, plan)?;

@@ -1,3 +1,5 @@
+#![tactic(auto)]
+
 // A card and the outcome of a call in words, for a tester. Keys are never shown.
 mod hex;
 mod lines;

@@ -125,18 +125,18 @@ fn card_lines(
 
 // Pages 3, 4 and 5, which are the three files.
 fn files<M: Memory>(memory: &M) -> ([u8; 16], [u8; 16], [u8; 16])
-    requires { 32 ≤ length (pages memory.now) }
-    ensures first { result.0 ≡ page (pages memory.now) 3 }
-    ensures second { result.1 ≡ page (pages memory.now) 4 }
-    ensures third { result.2 ≡ page (pages memory.now) 5 }
+    requires { 32 ≤ length (M.pages memory.now) }
+    ensures first { result.0 ≡ page (M.pages memory.now) 3 }
+    ensures second { result.1 ≡ page (M.pages memory.now) 4 }
+    ensures third { result.2 ≡ page (M.pages memory.now) 5 }
 {
     (page_at(memory, 3), page_at(memory, 4), page_at(memory, 5))
 }
 
 // The card that the pages of a memory are, in words; none where they are no card. The keys are not shown.
 pub fn describe<M: Memory>(heap: Global, memory: &M) -> Result<Option<String>, AllocError>
-    ensures text { IfOk result (λ o. option_map string_bytes o ≡ description (pages memory.now)) }
-    ensures keys { KeysNotShown (pages memory.now) }
+    ensures text { IfOk result (λ o. option_map string_bytes o ≡ description (M.pages memory.now)) }
+    ensures keys { KeysNotShown (M.pages memory.now) }
 {
     match read_card(memory) {
         None => Ok(None),

@@ -19,8 +19,8 @@ fn xor_in(mut block: [u8; 16], part: &[u8]) -> [u8; 16]
 
 // The result after the first `count` blocks of a text.
 fn chain<C: Cipher>(key: [u8; 16], text: &[u8], count: usize) -> [u8; 16]
-    requires { count * size ≤ length text.now }
-    ensures { result ≡ chained (enciphered key) size text.now count }
+    requires { count * C.size ≤ length text.now }
+    ensures { result ≡ chained (C.enciphered key) C.size text.now count }
 {
     let size = C::block_size();
     let mut block = [0u8; 16];
@@ -33,9 +33,9 @@ fn chain<C: Cipher>(key: [u8; 16], text: &[u8], count: usize) -> [u8; 16]
 
 // The last result for the message of `len` bytes that stands in the workpad; it is padded there.
 pub(crate) fn last_result<C: Cipher>(key: [u8; 16], workpad: &mut [u8], len: usize) -> [u8; 16]
-    requires { (len ≤ length workpad.old) × (blocks size len * size ≤ length workpad.old) }
-    ensures value { result ≡ last_result (enciphered key) size (take len workpad.old) }
-    ensures workpad { workpad.new ≡ padded_workpad size workpad.old len }
+    requires { (len ≤ length workpad.old) × (blocks C.size len * C.size ≤ length workpad.old) }
+    ensures value { result ≡ last_result (C.enciphered key) C.size (take len workpad.old) }
+    ensures workpad { workpad.new ≡ padded_workpad C.size workpad.old len }
 {
     let size = C::block_size();
     let count = pad(workpad, len, size);

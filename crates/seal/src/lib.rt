@@ -1,3 +1,5 @@
+#![tactic(auto)]
+
 // Seals: four bytes worked out of an algorithm byte, a key of 16 bytes and a message, on bytes that the host lends.
 //
 // The trait `Sealer` states what gives seals. `Single` is a sealer over one cipher, under one algorithm byte; `Pair` answers by the first of

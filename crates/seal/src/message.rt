@@ -26,7 +26,7 @@ pub fn seal_message<S: Sealer>(
     message: &[u8],
     workpad: &mut [u8],
 ) -> Result<[u8; 4], SealRefusal>
-    ensures answer { result ≡ message_seal (registered sealer.now algorithm) (sealed sealer.now algorithm key message.now) (length message.now) (length workpad.old) }
+    ensures answer { result ≡ message_seal (S.registered sealer.now algorithm) (S.sealed sealer.now algorithm key message.now) (length message.now) (length workpad.old) }
     ensures workpad { workpad.new ≡ message_workpad (length message.now) workpad.old }
     ensures padding { PaddingRule }
     ensures padded_lengths { RowsHold padding_rows }
@@ -42,7 +42,7 @@ fn seal_guarded<S: Sealer>(
     message: &[u8],
     workpad: &mut [u8],
 ) -> Result<[u8; 4], SealRefusal>
-    ensures answer { result ≡ message_seal (registered sealer.now algorithm) (sealed sealer.now algorithm key message.now) (length message.now) (length workpad.old) }
+    ensures answer { result ≡ message_seal (S.registered sealer.now algorithm) (S.sealed sealer.now algorithm key message.now) (length message.now) (length workpad.old) }
     ensures workpad { workpad.new ≡ message_workpad (length message.now) workpad.old }
 {
     if workpad.len() < 16 || workpad.len() - 16 < message.len() {
@@ -64,7 +64,7 @@ fn seal_copied<S: Sealer>(
     workpad: &mut [u8],
 ) -> Option<[u8; 4]>
     requires { length message.now + 16 ≤ length workpad.old }
-    ensures { result ≡ seal_answer (registered sealer.now algorithm) (sealed sealer.now algorithm key message.now) }
+    ensures { result ≡ seal_answer (S.registered sealer.now algorithm) (S.sealed sealer.now algorithm key message.now) }
 {
     workpad[..message.len()].copy_from_slice(message);
     sealer.seal(algorithm, key, workpad, message.len())

@@ -21,7 +21,7 @@ pub enum Answer {
 // The answer to a request, by a workpad that is large enough for every one.
 fn answer_request<S: Sealer>(sealer: &S, request: &Request) -> Answer
     requires { request.now.message.len ≤ 47 }
-    ensures { result ≡ request_answer (registered sealer.now) (sealed sealer.now) (asked_by request.now) }
+    ensures { result ≡ request_answer (S.registered sealer.now) (S.sealed sealer.now) (asked_by request.now) }
 {
     let mut workpad = [0u8; 64];
     let message = &request.message.bytes[..request.message.len];
@@ -39,7 +39,7 @@ fn answer_request<S: Sealer>(sealer: &S, request: &Request) -> Answer
 
 // The answer to a line.
 fn answer_to<S: Sealer>(sealer: &S, line: &[u8]) -> Answer
-    ensures { result ≡ answer_of (registered sealer.now) (sealed sealer.now) (request_of line.now) }
+    ensures { result ≡ answer_of (S.registered sealer.now) (S.sealed sealer.now) (request_of line.now) }
 {
     match parse_request(line) {
         None => Answer::Form,
@@ -75,7 +75,7 @@ fn answer_line(heap: Global, number: usize, answer: Answer) -> Result<String, Al
 
 // The answers to the lines of an input, numbered from 1.
 pub fn answer_lines<S: Sealer>(heap: Global, sealer: &S, input: &[u8]) -> Result<String, AllocError>
-    ensures text { IfOk result (λ s. string_bytes s ≡ answers_of (registered sealer.now) (sealed sealer.now) input.now) }
+    ensures text { IfOk result (λ s. string_bytes s ≡ answers_of (S.registered sealer.now) (S.sealed sealer.now) input.now) }
     ensures each { OneLineEach }
 {
     let mut text = String::new(heap);

@@ -1,3 +1,5 @@
+#![tactic(auto)]
+
 // Seals by lines of text.
 //
 // Each line of the input is `ALG,KEY,MESSAGE` in capital hexadecimal: two digits, 32 digits, and pairs of digits of at most 47 bytes. For

@@ -1,3 +1,5 @@
+#![tactic(auto)]
+
 // The sealer that cards are issued for: SEED under the algorithm byte 00, two-key Triple DES under 10.
 ghost use Rattle.std.specs.Prelude.{◌≡◌, length};
 ghost use Rattle.seal.specs.Message.{message_seal, message_workpad};

@@ -1,3 +1,5 @@
+#![tactic(auto)]
+
 // Reads lines that ask for seals from standard input, and prints the answer to each.
 use seal_lines::answer_lines;
 use sealers::card_sealer;

@@ -1,3 +1,5 @@
+#![tactic(auto)]
+
 // The block cipher SEED (RFC 4269).
 mod function;
 mod keys;

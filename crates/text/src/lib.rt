@@ -1,3 +1,5 @@
+#![tactic(auto)]
+
 // Text as programs read and write it.
 //
 // `hex_text` writes bytes in capital hexadecimal; `hex_byte` and `read_hex` read them. `split_line` gives the first line of a text, and

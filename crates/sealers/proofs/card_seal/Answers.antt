@@ -3,7 +3,7 @@ use Rattle.sealers.proofs.card_seal.Goals as goal
 
 pub returns : goal.returns
 returns c = record {
-  answer = c.seal-by-card.ensures.answer;
-  workpad = c.seal-by-card.ensures.workpad;
+  answer = c.seal_by_card.ensures.answer;
+  workpad = c.seal_by_card.ensures.workpad;
   examples = examples_hold;
 }

@@ -8,5 +8,5 @@ returns-then-source-ne192 c =
 
 pub returns : goal.returns
 returns c =
-    let t = test_read _ _ _ _ _ c.if-source-ne192.false c.record-page.ensures c.record-page-2.ensures c.record-page-3.ensures c.record-page-4.ensures _ c.holds_none.ensures in
+    let t = test_read _ _ _ _ _ c.if-source-ne192.false c.record_page.ensures c.record_page-2.ensures c.record_page-3.ensures c.record_page-4.ensures _ c.holds_none.ensures in
     record { test = t; rule = issue_decides _ _ t }

@@ -9,12 +9,12 @@ put_second a z b s t =
     let rest : drop 16 (drop 16 (a ++ z)) ≡ [] = ap (drop 16) (drop_at a z 16 s) ∙ drop_all 16 z (omega arith) in
     ap₂ (λ (x y : List ℕ). x ++ (b ++ y)) (take_at a z 16 s) rest ∙ ap (λ (y : List ℕ). a ++ y) (append-nil b)
 
-pub slice-bounds-bytes-end-2 : goal.slice-bounds-bytes-end-2
-slice-bounds-bytes-end-2 c =
-    let long : length (c.copy-from-slice.new.self ++ replicate 16 0) ≡ 32 = simp length-append (omega arith) in
+pub slice_bounds-bytes-end-2 : goal.slice_bounds-bytes-end-2
+slice_bounds-bytes-end-2 c =
+    let long : length (c.copy_from_slice.new.self ++ replicate 16 0) ≡ 32 = simp length-append (omega arith) in
     omega (arith, long)
 
 pub returns : goal.returns
 returns c =
-    put_second c.copy-from-slice.new.self (replicate 16 0) c.copy-from-slice-2.new.self c.copy-from-slice.ensures.len refl
-    ∙ ap₂ (λ (x y : List ℕ). x ++ y) c.copy-from-slice.ensures.after c.copy-from-slice-2.ensures.after
+    put_second c.copy_from_slice.new.self (replicate 16 0) c.copy_from_slice-2.new.self c.copy_from_slice.ensures.len refl
+    ∙ ap₂ (λ (x y : List ℕ). x ++ y) c.copy_from_slice.ensures.after c.copy_from_slice-2.ensures.after

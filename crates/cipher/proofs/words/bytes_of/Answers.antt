@@ -3,4 +3,4 @@ use Rattle.cipher.proofs.words.bytes_of.Goals as goal
 
 pub returns : goal.returns
 unfolding bytes_of
-returns c = c.to-be-bytes.ensures
+returns c = c.to_be_bytes.ensures

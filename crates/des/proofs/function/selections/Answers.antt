@@ -4,11 +4,11 @@ use Rattle.des.specs.Function.{selected}
 use Rattle.des.proofs.Selected.{selected_lt, selected_more, selection_fits}
 use Rattle.des.proofs.function.selections.Goals as goal
 
-pub overflow-mul-out : goal.overflow-mul-out
-overflow-mul-out c = record { fits = omega (arith, selected_lt c.args.x (c.loop-i.i - 1) (omega arith)) }
+pub overflow_mul-out : goal.overflow_mul-out
+overflow_mul-out c = record { fits = omega (arith, selected_lt c.args.x (c.loop-i.i - 1) (omega arith)) }
 
-pub overflow-add-out : goal.overflow-add-out
-overflow-add-out c =
+pub overflow_add-out : goal.overflow_add-out
+overflow_add-out c =
     record { fits = omega (arith, selection_fits c.args.x c.loop-i.i c.loop-i.out c.selection.result c.six_bits.result (omega arith) (omega arith) c.loop-i.invariant c.selection.ensures) }
 
 pub loop-i-preserved : goal.loop-i-preserved

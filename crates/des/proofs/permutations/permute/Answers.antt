@@ -9,21 +9,21 @@ pub loop-entry-init : goal.loop-entry-init
 unfolding permuted
 loop-entry-init c = refl
 
-pub overflow-mul-out : goal.overflow-mul-out
-overflow-mul-out c =
+pub overflow_mul-out : goal.overflow_mul-out
+overflow_mul-out c =
     let h = with_bit_fits c.args.n c.args.table.now c.args.x c.loop-entry.entry-index c.loop-entry.out 0 c.loop-entry-test.true c.requires.short c.loop-entry.invariant (omega arith) in
     record { fits = omega arith }
 
-pub overflow-sub-out : goal.overflow-sub-out
-overflow-sub-out c = (names_at c.args.n c.args.table.now c.loop-entry.entry-index c.requires.places c.loop-entry-test.true).1
+pub overflow_sub-out : goal.overflow_sub-out
+overflow_sub-out c = (names_at c.args.n c.args.table.now c.loop-entry.entry-index c.requires.places c.loop-entry-test.true).1
 
-pub overflow-shr-out : goal.overflow-shr-out
-overflow-shr-out c =
+pub overflow_shr-out : goal.overflow_shr-out
+overflow_shr-out c =
     let h = names_at c.args.n c.args.table.now c.loop-entry.entry-index c.requires.places c.loop-entry-test.true in
     omega arith
 
-pub overflow-add-out : goal.overflow-add-out
-overflow-add-out c =
+pub overflow_add-out : goal.overflow_add-out
+overflow_add-out c =
     record {
       fits =
           with_bit_fits c.args.n c.args.table.now c.args.x c.loop-entry.entry-index c.loop-entry.out _ c.loop-entry-test.true c.requires.short c.loop-entry.invariant

@@ -5,18 +5,18 @@ use Rattle.memory.specs.Plan.{plan_answer}
 use Rattle.memory.proofs.Plans.{answer_past, answer_worn, answer_open}
 use Rattle.memory.proofs.plan.all_open.Goals as goal
 
-pub returns-in-err-is-worn : goal.returns-in-err-is-worn
-returns-in-err-is-worn g c =
+pub returns-in_err-is_worn : goal.returns-in_err-is_worn
+returns-in_err-is_worn g c =
     let m = g.M.Memory in
-    let p = err_from_is_err_and c.from-residual.result c.from-residual.ensures.1 in
-    let past = answer_past (length (m.pages c.args.memory.now)) (m.worn c.args.memory.now) c.args.plan.now c.loop-entry.entry-index c.loop-entry-test.true _ c.in-err-is-worn.ensures in
+    let p = err_from_is_err_and c.from_residual.result c.from_residual.ensures.1 in
+    let past = answer_past (length (m.pages c.args.memory.now)) (m.worn c.args.memory.now) c.args.plan.now c.loop-entry.entry-index c.loop-entry-test.true _ c.in_err-is_worn.ensures in
     rw (p.1, p.2) (sym past ∙ c.loop-entry.invariant.1)
 
 pub returns-then-branch : goal.returns-then-branch
-returns-then-branch g c = sym (answer_worn _ _ _ _ c.loop-entry-test.true _ c.in-ok-is-worn.ensures c.if-branch.true) ∙ c.loop-entry.invariant.1
+returns-then-branch g c = sym (answer_worn _ _ _ _ c.loop-entry-test.true _ c.in_ok-is_worn.ensures c.if-branch.true) ∙ c.loop-entry.invariant.1
 
 pub loop-entry-preserved : goal.loop-entry-preserved
-loop-entry-preserved g c = (omega arith, sym (answer_open _ _ _ _ c.loop-entry-test.true _ c.in-ok-is-worn.ensures c.if-branch.false) ∙ c.loop-entry.invariant.1)
+loop-entry-preserved g c = (omega arith, sym (answer_open _ _ _ _ c.loop-entry-test.true _ c.in_ok-is_worn.ensures c.if-branch.false) ∙ c.loop-entry.invariant.1)
 
 pub returns : goal.returns
 returns g c = sym (at_drop_all (plan_answer _ _) _ _ c.loop-entry-test.false) ∙ c.loop-entry.invariant.1

@@ -3,9 +3,9 @@ use Rattle.std.proofs.lemmas.Bool.{true≢false}
 use Rattle.memory.proofs.Plans.{step_refused, step_on, all_written, all_placed}
 use Rattle.memory.proofs.plan.write_plan.Goals as goal
 
-pub returns-in-err-write : goal.returns-in-err-write
-returns-in-err-write g c =
-    absurd (step_refused c.args.plan.now c.loop-entry.entry-index c.requires c.loop-entry-test.true c.loop-entry.invariant.0 c.write.ensures.written _ c.in-err-write.was)
+pub returns-in_err-write : goal.returns-in_err-write
+returns-in_err-write g c =
+    absurd (step_refused c.args.plan.now c.loop-entry.entry-index c.requires c.loop-entry-test.true c.loop-entry.invariant.0 c.write.ensures.written _ c.in_err-write.was)
 
 pub loop-entry-preserved : goal.loop-entry-preserved
 loop-entry-preserved g c =

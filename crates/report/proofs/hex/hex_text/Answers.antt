@@ -20,8 +20,8 @@ done xs i t past so_far = sym (append-nil t) ∙ ap (λ l. t ++ l) (sym (at_drop
 
 pub loop-b-preserved : goal.loop-b-preserved
 loop-b-preserved c =
-    let h = c.in-ok-push.ensures in
-    let k = c.in-ok-push-2.ensures in
+    let h = c.in_ok-push.ensures in
+    let k = c.in_ok-push-2.ensures in
     turn c.args.bytes.now c.loop-b.b-index (string_bytes c.loop-b.text) (string_bytes c.push.new.self)
     (string_bytes c.push-in-loop-b.new.self) (encode c.digit.result) (encode c.digit-in-loop-b.result) c.digit.result
     c.digit-in-loop-b.result

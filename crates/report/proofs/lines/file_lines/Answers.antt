@@ -3,4 +3,4 @@ use Rattle.report.proofs.lines.file_lines.Goals as goal
 
 pub returns : goal.returns
 returns c =
-    simp (sym c.in-ok-first.ensures, sym c.in-ok-second.ensures, sym c.in-ok-third.ensures) c.format.ensures.ok
+    simp (sym c.in_ok-first.ensures, sym c.in_ok-second.ensures, sym c.in_ok-third.ensures) c.format.ensures.ok

@@ -4,5 +4,5 @@ use Rattle.report.proofs.lines.sealing_lines.Goals as goal
 pub returns : goal.returns
 returns c =
     made_as _ _ _
-    (same_sealing _ _ _ _ _ _ c.in-ok-algorithm.ensures c.algorithm-words-name.ensures c.in-ok-version.ensures)
+    (same_sealing _ _ _ _ _ _ c.in_ok-algorithm.ensures c.algorithm_words-name.ensures c.in_ok-version.ensures)
     c.format.ensures.ok

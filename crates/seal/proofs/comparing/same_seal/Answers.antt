@@ -8,4 +8,4 @@ returns c =
     let lb : length c.args.b ≡ 4 = search rules in
     let fa : (k : ℕ) → get_or c.args.a k 0 < 256 = λ k. search rules in
     let fb : (k : ℕ) → get_or c.args.b k 0 < 256 = λ k. search rules in
-    c.same-number.ensures ∙ compared c.args.a c.args.b la lb fa fb
+    c.same_number.ensures ∙ compared c.args.a c.args.b la lb fa fb

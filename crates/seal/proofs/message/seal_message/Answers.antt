@@ -4,9 +4,9 @@ use Rattle.seal.proofs.message.seal_message.Goals as goal
 
 pub returns : goal.returns
 returns g c = record {
-  answer = c.seal-guarded.ensures.answer;
-  workpad = c.seal-guarded.ensures.workpad;
+  answer = c.seal_guarded.ensures.answer;
+  workpad = c.seal_guarded.ensures.workpad;
   padding = padding_rule;
-  padded-lengths = padding_table;
+  padded_lengths = padding_table;
   short = short_messages;
 }

@@ -7,9 +7,9 @@ use Rattle.seal.proofs.padding.pad.Goals as goal
 pub bounds-workpad-len : goal.bounds-workpad-len
 bounds-workpad-len c = omega (arith, room_for_one c.args.size c.args.len (at_least_one c.args.size c.requires.0))
 
-pub slice-bounds-fill-end : goal.slice-bounds-fill-end
+pub slice_bounds-fill-end : goal.slice_bounds-fill-end
 unfolding blocks
-slice-bounds-fill-end c =
+slice_bounds-fill-end c =
     let n = (c.args.len / c.args.size + 1) * c.args.size in
     let r : c.args.len < n = room_for_one c.args.size c.args.len (at_least_one c.args.size c.requires.0) in
     let h : n ≤ length (set c.args.workpad.now c.args.len 128) = omega (arith, length-set c.args.workpad.now c.args.len 128) in

@@ -4,8 +4,8 @@ use Rattle.text.proofs.LineLaws.{lines_rule}
 use Rattle.text.proofs.Splits.{first_at, first_last}
 use Rattle.text.proofs.lines.split_line.Goals as goal
 
-pub returns-then-is-empty : goal.returns-then-is-empty
-returns-then-is-empty c = record { first = nil_from_length c.args.text.now (search rules); rule = lines_rule }
+pub returns-then-is_empty : goal.returns-then-is_empty
+returns-then-is_empty c = record { first = nil_from_length c.args.text.now (search rules); rule = lines_rule }
 
 pub returns-then-b-eq10 : goal.returns-then-b-eq10
 returns-then-b-eq10 c =

@@ -19,8 +19,8 @@ returns c =
       keys = key_laws;
       deciphering = deciphering_undoes;
       complementation = complementation;
-      triple-deciphering = triple_des_undone;
-      equal-halves = equal_halves_are_des;
+      triple_deciphering = triple_des_undone;
+      equal_halves = equal_halves_are_des;
       parity = parity_ignored;
       known_answers = known_answers_hold;
     }

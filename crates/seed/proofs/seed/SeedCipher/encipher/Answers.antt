@@ -8,7 +8,7 @@ use Rattle.seed.proofs.seed.SeedCipher.encipher.Goals as goal
 pub returns : goal.returns
 unfolding seed_enciphered
 returns c = record {
-  value = c.enciphered-block.ensures;
+  value = c.enciphered_block.ensures;
   boxes = boxes_by_rule;
   extended = g_extended;
   constants = constants_by_rotation;
