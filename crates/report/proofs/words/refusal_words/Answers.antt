@@ -1,4 +1,3 @@
-use Rattle.std.proofs.Common.{refl}
 use Rattle.report.proofs.words.refusal_words.Goals as goal
 
 pub returns-in-TooFewPages : goal.returns-in-TooFewPages
