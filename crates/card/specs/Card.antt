@@ -1,4 +1,4 @@
--- The card that pages are, worked out page by page. The rule that it meets, a list of conditions, is `Is-card` of Rule.antt.
+-- The card that pages are, worked out page by page. The rule that it meets, a list of conditions, is `IsCard` of Rule.antt.
 use Rattle.std.specs.Prelude.{ℕ, Bool, true, false, ◌&&◌, ◌||◌, List, length, Some, None, Option, ◌==◌, nat_le, nat_lt}
 use Rattle.card.specs.declared.limits.Limits.{Limits}
 use Rattle.card.specs.declared.purse.Last.{Last}

@@ -6,7 +6,7 @@ mod constant;
 #[cfg(test)]
 mod seals;
 #[cfg(test)]
-mod seed;
+mod seed_vectors;
 #[cfg(test)]
 mod triple_des;
 #[cfg(test)]

@@ -105,7 +105,7 @@ all_writable w a zero f = refl
 all_writable w a (suc n) f =
     ap (λ x. cond x true (any_worn w (range_with_len (a + 1) n))) (f a (omega arith)) ∙ all_writable w (a + 1) n (λ k h. f k (omega arith))
 
--- the three tests one after the other, as `issue-answer` has them
+-- the three tests one after the other, as `issue_answer` has them
 abbrev tested : Bool → Bool → Bool → Answer
 tested few fits worn = cond few (Err TooFewPages) (cond (not fits) (Err WrongRecord) (cond worn (Err WornPage) (Ok tt)))
 
