@@ -5,7 +5,8 @@ usage: python3 tools/respell.py          at the top of the repository, once, aft
 
 Types and facts are in upper camel case, everything else is in snake case; a dash stays where it joins the name of a library
 function to what the lemma says of it, as in length-pages_of. Names of functions in src/, of goals, and everything in strings
-and comments stay as they are. A name that would fall together with another one stops the script before it writes anything.
+and comments stay as they are. The script prints the new names that are already spelled somewhere, as those of a module or of the
+folder of a function, and with such names it writes only where it is given --go. Two names that would fall together stop it always.
 """
 import os
 import re
@@ -13,6 +14,8 @@ import subprocess
 import sys
 
 LIBRARY = {"length": "length", "getD": "get_or"}
+# names that would else be those of fields of the session, which a clause could then take for the definitions
+APART = {"header-page": "header_bytes", "limits-page": "limits_bytes", "purse-page": "purse_bytes"}
 NAME = r"[^\s(){}\[\]:;.,`«»≡≢≤<>∷λ→×⊎◌∙←⌜⌝⊢]+"
 TOKEN = re.compile(NAME)
 TOP = re.compile(r"^(?:(?:abbrev|unfoldable|opaque|pub|data|record)\s+)*(" + NAME + r")(?:\s.*)?\s:")
@@ -52,6 +55,8 @@ def declared(names):
 
 
 def respelled(name):
+    if name in APART:
+        return APART[name]
     parts = name.split("-")
     if name[0].isupper():
         return "".join(p[:1].upper() + p[1:] for p in parts)
@@ -62,9 +67,9 @@ def respelled(name):
 
 def turn(line, names, is_rust):
     code, note = code_of(line, "// " if is_rust else "-- ")
-    if is_rust and '"' in code:
-        return line
-    return TOKEN.sub(lambda m: names.get(m.group(0), m.group(0)), code) + note
+    parts = re.split(r'("[^"]*")', code)
+    parts[::2] = [TOKEN.sub(lambda m: names.get(m.group(0), m.group(0)), p) for p in parts[::2]]
+    return "".join(parts) + note
 
 
 def main():

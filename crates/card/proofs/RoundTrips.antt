@@ -4,9 +4,9 @@ use Rattle.std.specs.List.{range_with_len}
 use Rattle.std.proofs.lemmas.List.{take_all}
 use Rattle.card.specs.Bytes.{byte}
 use Rattle.card.specs.Codec.{RoundTrip}
-use Rattle.card.specs.Header.{header_page, header_of}
-use Rattle.card.specs.Limits.{limits_page, limits_of}
-use Rattle.card.specs.Purse.{purse_page, purse_of}
+use Rattle.card.specs.Header.{header_bytes, header_of}
+use Rattle.card.specs.Limits.{limits_bytes, limits_of}
+use Rattle.card.specs.Purse.{purse_bytes, purse_of}
 use Rattle.card.specs.Record.{record_bytes, record_of}
 use Rattle.card.specs.declared.header.Header.{Header}
 use Rattle.card.specs.declared.limits.Limits.{Limits}
@@ -33,42 +33,42 @@ round_trip n write read x again back =
     }
 
 module _ (h : Header) where
-  header_back : (f : ℕ → ℕ) → header_of (map f (range_with_len 0 16)) ≡ Some h → header_page h ≡ map f (range_with_len 0 16)
+  header_back : (f : ℕ → ℕ) → header_of (map f (range_with_len 0 16)) ≡ Some h → header_bytes h ≡ map f (range_with_len 0 16)
   header_back f e =
       let p = and_then_some _ _ _ e in
       let q = and_then_some _ _ _ p.2 in
       let r = only_if_some _ _ _ q.2 in
-      some_at (λ m. header_page m ≡ map f (range_with_len 0 16)) r.1
+      some_at (λ m. header_bytes m ≡ map f (range_with_len 0 16)) r.1
       (beside (ap (λ n. n ∷ []) (life_written _ _ p.1))
       (beside (ap (λ n. n ∷ f 2 ∷ f 3 ∷ f 4 ∷ []) (block_written _ _ q.1))
       (ap (λ zs. zs ++ map f (range_with_len 8 8)) (zeros (map f (range_with_len 5 3)) r.0))))
 
-  pub header_round : length h.idep ≡ 8 → RoundTrip 16 header_page header_of h
+  pub header_round : length h.idep ≡ 8 → RoundTrip 16 header_bytes header_of h
   header_round e =
       let short : length h.idep ≤ 8 = omega arith in
-      round_trip 16 header_page header_of h (simp (life_read, block_read, take_all)) (λ f _. header_back f)
+      round_trip 16 header_bytes header_of h (simp (life_read, block_read, take_all)) (λ f _. header_back f)
 
 module _ (l : Limits) where
-  limits_back : (f : ℕ → ℕ) → ((k : ℕ) → f k < 256) → limits_of (map f (range_with_len 0 16)) ≡ Some l → limits_page l ≡ map f (range_with_len 0 16)
+  limits_back : (f : ℕ → ℕ) → ((k : ℕ) → f k < 256) → limits_of (map f (range_with_len 0 16)) ≡ Some l → limits_bytes l ≡ map f (range_with_len 0 16)
   limits_back f fits e =
       let p = only_if_some _ _ _ e in
-      some_at (λ m. limits_page m ≡ map f (range_with_len 0 16)) p.1
+      some_at (λ m. limits_bytes m ≡ map f (range_with_len 0 16)) p.1
       (beside (four_word f fits 0 12) (beside (four_word f fits 4 8) (zeros _ p.0)))
 
-  pub limits_round : l.ceiling < 2 ^ 32 → l.limit < 2 ^ 32 → RoundTrip 16 limits_page limits_of l
-  limits_round c t = round_trip 16 limits_page limits_of l (simp word_four) limits_back
+  pub limits_round : l.ceiling < 2 ^ 32 → l.limit < 2 ^ 32 → RoundTrip 16 limits_bytes limits_of l
+  limits_round c t = round_trip 16 limits_bytes limits_of l (simp word_four) limits_back
 
 module _ (u : Purse) where
-  purse_back : (f : ℕ → ℕ) → ((k : ℕ) → f k < 256) → purse_of (map f (range_with_len 0 16)) ≡ Some u → purse_page u ≡ map f (range_with_len 0 16)
+  purse_back : (f : ℕ → ℕ) → ((k : ℕ) → f k < 256) → purse_of (map f (range_with_len 0 16)) ≡ Some u → purse_bytes u ≡ map f (range_with_len 0 16)
   purse_back f fits e =
       let p = and_then_some _ _ _ e in
       let q = only_if_some _ _ _ p.2 in
-      some_at (λ m. purse_page m ≡ map f (range_with_len 0 16)) q.1
+      some_at (λ m. purse_bytes m ≡ map f (range_with_len 0 16)) q.1
       (beside (four_word f fits 0 12) (beside (four_word f fits 4 8)
       (beside (ap (λ n. f 8 ∷ f 9 ∷ n ∷ []) (last_written _ _ p.1)) (zeros _ q.0))))
 
-  pub purse_round : u.total < 2 ^ 32 → u.nt < 2 ^ 32 → RoundTrip 16 purse_page purse_of u
-  purse_round t n = round_trip 16 purse_page purse_of u (simp (last_read, word_four)) purse_back
+  pub purse_round : u.total < 2 ^ 32 → u.nt < 2 ^ 32 → RoundTrip 16 purse_bytes purse_of u
+  purse_round t n = round_trip 16 purse_bytes purse_of u (simp (last_read, word_four)) purse_back
 
 -- r with its lists written out
 abbrev spelled : Record → Record

@@ -23,8 +23,8 @@ abbrev pub block_flag_of : ℕ → Option BlockFlag
 block_flag_of b = cond (b == 0x00) (Some Free) (cond (b == 0x01) (Some Blocked) None)
 
 -- life cycle 1, block flag 1, ALG 1, VK 1, IDCENTER 1, three 00, IDEP 8
-abbrev pub header_page : Header → List ℕ
-header_page h = life_cycle_byte h.life ∷ block_flag_byte h.block ∷ h.algorithm ∷ h.version ∷ h.idcenter ∷ 0 ∷ 0 ∷ 0 ∷ h.idep
+abbrev pub header_bytes : Header → List ℕ
+header_bytes h = life_cycle_byte h.life ∷ block_flag_byte h.block ∷ h.algorithm ∷ h.version ∷ h.idcenter ∷ 0 ∷ 0 ∷ 0 ∷ h.idep
 
 abbrev pub header_in : List ℕ → LifeCycle → BlockFlag → Header
 header_in page life block =

@@ -11,8 +11,8 @@ abbrev pub limit_in : List ℕ → ℕ
 limit_in page = word_at 4 page
 
 -- ride ceiling 4, total limit 4, eight 00
-abbrev pub limits_page : Limits → List ℕ
-limits_page l = four l.ceiling ++ (four l.limit ++ replicate 8 0)
+abbrev pub limits_bytes : Limits → List ℕ
+limits_bytes l = four l.ceiling ++ (four l.limit ++ replicate 8 0)
 
 abbrev pub limits_in : List ℕ → Limits
 limits_in page = record { ceiling = ceiling_in page; limit = limit_in page }

@@ -30,8 +30,8 @@ abbrev pub last_in : List ℕ → ℕ
 last_in page = byte page 10
 
 -- total 4, NT 4, next slot 1, held 1, last 1, five 00
-abbrev pub purse_page : Purse → List ℕ
-purse_page u = four u.total ++ (four u.nt ++ (u.next ∷ u.held ∷ last_byte u.last ∷ replicate 5 0))
+abbrev pub purse_bytes : Purse → List ℕ
+purse_bytes u = four u.total ++ (four u.nt ++ (u.next ∷ u.held ∷ last_byte u.last ∷ replicate 5 0))
 
 abbrev pub purse_in : List ℕ → Last → Purse
 purse_in page last = record { total = total_in page; nt = nt_in page; next = next_in page; held = held_in page; last = last }

@@ -1,6 +1,6 @@
 ghost use Rattle.std.specs.Prelude.{◌≡◌};
 ghost use Rattle.card.specs.Codec.{RoundTrip};
-ghost use Rattle.card.specs.Header.{life_cycle_byte, life_cycle_of, block_flag_byte, block_flag_of, header_page, header_of};
+ghost use Rattle.card.specs.Header.{life_cycle_byte, life_cycle_of, block_flag_byte, block_flag_of, header_bytes, header_of};
 
 use crate::bytes::all_zero;
 
@@ -99,7 +99,7 @@ impl Header {
 
     // The bytes of page 0.
     fn to_bytes(self) -> [u8; 16]
-        ensures { result ≡ header_page self }
+        ensures { result ≡ header_bytes self }
     {
         let mut page = [0; 16];
         page[0] = self.life.byte();
@@ -112,8 +112,8 @@ impl Header {
     }
 
     pub fn encode(self) -> [u8; 16]
-        ensures page { result ≡ header_page self }
-        ensures back { RoundTrip 16 header_page header_of self }
+        ensures page { result ≡ header_bytes self }
+        ensures back { RoundTrip 16 header_bytes header_of self }
     {
         self.to_bytes()
     }

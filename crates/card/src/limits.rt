@@ -1,6 +1,6 @@
 ghost use Rattle.std.specs.Prelude.{◌≡◌};
 ghost use Rattle.card.specs.Codec.{RoundTrip};
-ghost use Rattle.card.specs.Limits.{limits_page, limits_of};
+ghost use Rattle.card.specs.Limits.{limits_bytes, limits_of};
 
 use crate::bytes::{all_zero, word_at};
 
@@ -27,7 +27,7 @@ impl Limits {
 
     // The bytes of page 1.
     fn to_bytes(self) -> [u8; 16]
-        ensures { result ≡ limits_page self }
+        ensures { result ≡ limits_bytes self }
     {
         let mut page = [0; 16];
         page[0..4].copy_from_slice(&self.ceiling.to_be_bytes());
@@ -36,8 +36,8 @@ impl Limits {
     }
 
     pub fn encode(self) -> [u8; 16]
-        ensures page { result ≡ limits_page self }
-        ensures back { RoundTrip 16 limits_page limits_of self }
+        ensures page { result ≡ limits_bytes self }
+        ensures back { RoundTrip 16 limits_bytes limits_of self }
     {
         self.to_bytes()
     }

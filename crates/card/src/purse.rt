@@ -1,7 +1,7 @@
 ghost use Rattle.std.specs.Prelude.{◌≡◌, ◌∷◌, ◌++◌, replicate};
 ghost use Rattle.card.specs.Bytes.{four};
 ghost use Rattle.card.specs.Codec.{RoundTrip};
-ghost use Rattle.card.specs.Purse.{last_byte, last_of, purse_page, purse_of, newest_slot};
+ghost use Rattle.card.specs.Purse.{last_byte, last_of, purse_bytes, purse_of, newest_slot};
 
 use crate::bytes::{all_zero, word_at};
 
@@ -87,7 +87,7 @@ impl Purse {
 
     // The bytes of page 2.
     fn to_bytes(self) -> [u8; 16]
-        ensures { result ≡ purse_page self }
+        ensures { result ≡ purse_bytes self }
     {
         let mut page = [0; 16];
         page[0..8].copy_from_slice(&self.counters());
@@ -96,8 +96,8 @@ impl Purse {
     }
 
     pub fn encode(self) -> [u8; 16]
-        ensures page { result ≡ purse_page self }
-        ensures back { RoundTrip 16 purse_page purse_of self }
+        ensures page { result ≡ purse_bytes self }
+        ensures back { RoundTrip 16 purse_bytes purse_of self }
     {
         self.to_bytes()
     }
