@@ -11,11 +11,12 @@ use des::TripleDes;
 use sealers::card_seal;
 use seed::Seed;
 
+// Form: C reads the answer of a call as a number.
 const TAKEN: u8 = 0;
 
 const REFUSED: u8 = 1;
 
-// A key or a block in 16 bytes, with zeros behind it.
+// A block in 16 bytes, with zeros behind it.
 fn widen(block: &[u8]) -> [u8; 16]
     requires { length block.now ≤ 16 }
     ensures { result ≡ widened block.now }
@@ -27,13 +28,16 @@ fn widen(block: &[u8]) -> [u8; 16]
 
 // Enciphers the block where it stands.
 fn encipher<C: Cipher>(key: &[u8], block: &mut [u8]) -> u8
-    ensures number { result ≡ answer (takes_block C.size key.now block.old) }
-    ensures after { block.new ≡ block_after C.enciphered C.size key.now block.old }
+    ensures number { result ≡ answer (takes_block C.BLOCK key.now block.old) }
+    ensures after { block.new ≡ block_after C.enciphered C.BLOCK key.now block.old }
 {
-    if key.len() != 16 || block.len() != C::block_size() {
+    let Ok(key) = <[u8; 16]>::try_from(key) else {
+        return REFUSED;
+    };
+    if block.len() != C::BLOCK {
         return REFUSED;
     }
-    let result = C::encipher(widen(key), widen(block));
+    let result = C::encipher(key, widen(block));
     block.copy_from_slice(&result[..block.len()]);
     TAKEN
 }
@@ -62,15 +66,16 @@ pub extern "C" fn message_seal(algorithm: u8, key: &[u8], message: &[u8], seal: 
     ensures number { result ≡ answer (takes_message algorithm key.now message.now seal.old) }
     ensures after { seal.new ≡ seal_after algorithm key.now message.now seal.old }
 {
-    if key.len() != 16 || message.len() > 48 || seal.len() != 4 {
+    let Ok(key) = <[u8; 16]>::try_from(key) else {
+        return REFUSED;
+    };
+    if message.len() > 48 || seal.len() != 4 {
         return REFUSED;
     }
     let mut workpad = [0u8; 64];
-    match card_seal(algorithm, widen(key), message, &mut workpad) {
-        Ok(bytes) => {
-            seal.copy_from_slice(&bytes);
-            TAKEN
-        }
-        Err(_) => REFUSED,
-    }
+    let Ok(bytes) = card_seal(algorithm, key, message, &mut workpad) else {
+        return REFUSED;
+    };
+    seal.copy_from_slice(&bytes);
+    TAKEN
 }

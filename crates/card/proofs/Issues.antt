@@ -1,5 +1,8 @@
 -- Which records give a card that holds no record, and that this card does not depend on the pages above it.
-use Rattle.std.proofs.Common.{◌≡◌, ℕ, ◌+◌, ◌/◌, ◌%◌, ◌<◌, ◌≤◌, Bool, true, false, cond, ◌&&◌, eqb, List, [], ◌++◌, map, length, drop, replicate, Some, None, Option, sym, refl, ap, ◌∙◌, subst, ap₂, arith}
+use Rattle.std.proofs.Common.{◌≡◌, ◌≢◌, ℕ, ◌+◌, ◌/◌, ◌%◌, ◌<◌, ◌≤◌, Bool, true, false, cond, ◌&&◌, eqb, List, [], ◌++◌, map, length, drop, replicate, Some, None, Option, sym, refl, ap, ◌∙◌, subst, ap₂, arith}
+use denote.Ref.{Bor}
+use Rattle.std.specs.Option.{MatchOption}
+use Rattle.std.specs.Array.{IsWholeChunk}
 use Rattle.std.specs.List.{range_with_len}
 use Rattle.std.proofs.lemmas.List.{append_assoc, length-append, get_or_append_left}
 use Rattle.std.proofs.lemmas.Bool.{and_parts, eqb-true, eq-eqb, ne_eqb}
@@ -49,13 +52,17 @@ test_first s size =
     ∙ ap (λ n. holds_none (card_of (made n))) e
     ∙ card_none (first_pages_of (page_at s 0) (page_at s 1) (page_at s 2) (page_at s 11)) (made 12)
 
-pub test_short : (s : List ℕ) → (length s ≡ 192 → ⊥) → false ≡ issuable s
+test_short : (s : List ℕ) → (length s ≡ 192 → ⊥) → false ≡ issuable s
 unfolding issuable
 test_short s ne = sym (ap (λ b. b && holds_none (card_of (issued s []))) (ne_eqb (length s) 192 ne))
 
-module _ (s a b c d : List ℕ) (size : length s ≡ 192) (e₀ : a ≡ page_at s 0) (e₁ : b ≡ page_at s 1) (e₂ : c ≡ page_at s 2) (e₃ : d ≡ page_at s 11) where
-  pub test_read : (r : Bool) → r ≡ first_none (first_pages_of a b c d) → r ≡ issuable s
-  test_read r e = e ∙ simp (e₀, e₁, e₂, e₃) (sym (test_first s size))
+-- the answer of a call that looks at an array of 192 bytes, where there is one
+pub test_whole : (s : List ℕ) (o : Option (Bor (List ℕ))) (r : Bool) → MatchOption o (length s ≢ 192) (λ y. IsWholeChunk s y.now 192)
+    → MatchOption o (r ≡ false) (λ y. r ≡ first_none (first_pages_of (page_at y.now 0) (page_at y.now 1) (page_at y.now 2) (page_at y.now 11))) → r ≡ issuable s
+test_whole s None r long read = read ∙ test_short s long
+test_whole s (Some y) r long read =
+    let f : List ℕ → Bool = λ x. first_none (first_pages_of (page_at x 0) (page_at x 1) (page_at x 2) (page_at x 11)) in
+    read ∙ ap f long.same ∙ sym (test_first s long.long)
 
 -- the rule
 held_none : (o : Option CardView) → holds_none o ≡ true → (v : CardView) × (o ≡ Some v) × (v.purse.held ≡ 0)

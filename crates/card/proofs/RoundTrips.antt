@@ -2,6 +2,7 @@
 use Rattle.std.proofs.Common.{◌≡◌, ℕ, ◌^◌, ◌<◌, ◌≤◌, List, [], ◌∷◌, ◌++◌, map, length, Some, Option, sym, ap, subst, arith}
 use Rattle.std.specs.List.{range_with_len}
 use Rattle.std.proofs.lemmas.List.{take_all}
+use Rattle.std.proofs.lemmas.Option.{same_Some}
 use Rattle.card.specs.Bytes.{byte}
 use Rattle.card.specs.Codec.{RoundTrip}
 use Rattle.card.specs.Header.{header_bytes, header_of}
@@ -18,7 +19,7 @@ use Rattle.card.proofs.Words.{listed, word_four, four_word}
 use Rattle.card.proofs.Zeros.{zeros}
 
 some_at : {X : Type 0} {x y : X} (P : X → Type 0) → Some x ≡ Some y → P x → P y
-some_at {x = x} {y = y} P e = let same : x ≡ y = cc in subst P same
+some_at {x = x} {y = y} P e = subst P (same_Some x y e)
 
 beside : {xs xs' ys ys' : List ℕ} → xs ≡ xs' → ys ≡ ys' → xs ++ ys ≡ xs' ++ ys'
 beside p q = cc

@@ -1,17 +1,16 @@
 -- The card that is worked out page by page is the card of the rule.
-use Rattle.std.proofs.Common.{◌≡◌, ℕ, zero, suc, ◌+◌, ◌%◌, ◌<◌, ◌≤◌, Bool, true, false, cond, ◌&&◌, ◌||◌, eqb, leb, ◌⊎◌, List, [], ◌∷◌, is_some, Some, None, Option, sym, refl, ap, ◌∙◌, subst, ap₂, inl, inr, ⊎_elim, arith}
+use Rattle.std.proofs.Common.{◌≡◌, ℕ, ◌+◌, ◌%◌, ◌<◌, ◌≤◌, Bool, true, cond, ◌&&◌, ◌||◌, eqb, leb, ◌⊎◌, List, is_some, Some, None, Option, sym, refl, ap, ◌∙◌, subst, ap₂, inl, inr, ⊎_elim, arith}
 use Rattle.std.proofs.lemmas.Bool.Decides.{nat_tests}
-use Rattle.std.proofs.lemmas.Bool.{and_parts, eqb-true, eq-eqb, ne_eqb, leb-true, le-leb, lt-ltb, cases_lt}
+use Rattle.std.proofs.lemmas.Bool.{and_from, and_parts, eqb-true, eq-eqb, ne_eqb, leb-true, le-leb, lt-ltb, cases_lt, cond-true}
+use Rattle.std.proofs.lemmas.Option.{same_Some}
 use Rattle.card.specs.declared.header.LifeCycle.{LifeCycle}
 use Rattle.card.specs.declared.header.LifeCycle.TheVariants.{BeforeUse, InUse}
 use Rattle.card.specs.declared.header.BlockFlag.{BlockFlag}
 use Rattle.card.specs.declared.header.BlockFlag.TheVariants.{Free, Blocked}
 use Rattle.card.specs.declared.header.Header.{Header}
-use Rattle.card.specs.declared.purse.Last.{Last}
-use Rattle.card.specs.declared.purse.Last.TheVariants.{Nothing, Ride, Cancel}
 use Rattle.card.specs.declared.purse.Purse.{Purse}
 use Rattle.card.specs.declared.record.Kind.{Kind}
-use Rattle.card.specs.declared.record.Kind.TheVariants.{Ride as ride_kind, Cancel as cancel_kind}
+use Rattle.card.specs.declared.record.Kind.TheVariants.{Ride, Cancel}
 use Rattle.card.specs.declared.view.FirstPages.{FirstPages}
 use Rattle.card.specs.declared.view.CardView.{CardView}
 use Rattle.card.specs.Bytes.{byte, part, all_zero}
@@ -24,20 +23,8 @@ use Rattle.card.specs.Pages.{Pages, page, slot_bytes}
 use Rattle.card.specs.Card.{last_fits, purse_fits, kind_fits, amount_fits, newest_fits, first_pages_of, view_with, with_newest, card_of}
 use Rattle.card.specs.Rule.{Zeros, HeaderKept, PurseKept, NewestKept, newest_bytes, IsCard, Decides}
 use Rattle.card.proofs.Codes.{last_written, kind_written}
-use Rattle.card.proofs.Steps.{some_same, and_then_some, only_if_some, and_then_at, only_if_at, some_value}
-
-all_both : (a b : Bool) → a ≡ true → b ≡ true → (a && b) ≡ true
-all_both a b p q = cc
-
--- a list of zeros, by the test and by its places
-zeros_sound : (xs : List ℕ) → all_zero xs ≡ true → Zeros xs
-zeros_sound [] e k = refl
-zeros_sound (x ∷ xs) e zero = grind (arith, nat_tests)
-zeros_sound (x ∷ xs) e (suc k) = zeros_sound xs (grind (arith, nat_tests)) k
-
-zeros_complete : (xs : List ℕ) → Zeros xs → all_zero xs ≡ true
-zeros_complete [] z = refl
-zeros_complete (x ∷ xs) z = ap (λ b. cond b (all_zero xs) false) (eq-eqb x 0 (z zero)) ∙ zeros_complete xs (λ k. z (suc k))
+use Rattle.card.proofs.Zeros.{zeros_sound, zeros_complete}
+use Rattle.card.proofs.Steps.{and_then_some, only_if_some, and_then_at, some_value}
 
 -- Page 0.
 life_either : (b : ℕ) (l : LifeCycle) → life_cycle_of b ≡ Some l → (b ≡ 0x03) ⊎ (b ≡ 0x07)
@@ -68,7 +55,7 @@ header_complete xs k =
     let l = life_known (byte xs 0) k.life in
     let f = block_known (byte xs 1) k.block in (
       header_in xs l.0 f.0,
-      and_then_at _ _ _ l.1 ∙ and_then_at _ _ _ f.1 ∙ only_if_at _ _ (zeros_complete _ k.zeros),
+      and_then_at _ _ _ l.1 ∙ and_then_at _ _ _ f.1 ∙ cond-true _ _ _ (zeros_complete _ k.zeros),
     )
 
 -- Page 2, against page 1.
@@ -77,17 +64,16 @@ purse_tests : (total limit next held : ℕ) (x : Bool) → (leb total limit && (
 purse_tests total limit next held x e =
     (grind (arith, nat_tests), grind (arith, nat_tests), grind (arith, nat_tests), λ h. grind (arith, nat_tests), grind (arith, nat_tests))
 
-last_none : (b held : ℕ) (l : Last) → last_byte l ≡ b → last_fits held l ≡ true → held ≡ 0 → b ≡ 0x00
-last_none b held Nothing e f h = sym e
-last_none b held Ride e f h = grind (arith, nat_tests)
-last_none b held Cancel e f h = grind (arith, nat_tests)
+last_none : (b held : ℕ) (l : Option Kind) → last_byte l ≡ b → last_fits held l ≡ true → held ≡ 0 → b ≡ 0x00
+last_none b held None e f h = sym e
+last_none b held (Some kind) e f h = grind (arith, nat_tests)
 
-last_some : (b held : ℕ) (l : Last) → last_byte l ≡ b → last_fits held l ≡ true → 0 < held → (b ≡ 0x01) ⊎ (b ≡ 0x02)
-last_some b held Nothing e f h = absurd (grind (arith, nat_tests))
-last_some b held Ride e f h = inl (sym e)
-last_some b held Cancel e f h = inr (sym e)
+last_some : (b held : ℕ) (l : Option Kind) → last_byte l ≡ b → last_fits held l ≡ true → 0 < held → (b ≡ 0x01) ⊎ (b ≡ 0x02)
+last_some b held None e f h = absurd (grind (arith, nat_tests))
+last_some b held (Some Ride) e f h = inl (sym e)
+last_some b held (Some Cancel) e f h = inr (sym e)
 
-purse_sound : (one two : List ℕ) (l : Last) → last_of (last_in two) ≡ Some l → all_zero (part 11 5 two) ≡ true → purse_fits (limits_in one) (purse_in two l) ≡ true → PurseKept one two
+purse_sound : (one two : List ℕ) (l : Option Kind) → last_of (last_in two) ≡ Some l → all_zero (part 11 5 two) ≡ true → purse_fits (limits_in one) (purse_in two l) ≡ true → PurseKept one two
 purse_sound one two l e z f =
     let t = purse_tests (total_in two) (limit_in one) (next_in two) (held_in two) (last_fits (held_in two) l) f in
     let b = last_written (last_in two) l e in
@@ -101,42 +87,42 @@ purse_sound one two l e z f =
       zeros = zeros_sound _ z;
     }
 
-last_known : (b held : ℕ) → (held ≡ 0 → b ≡ 0x00) → (0 < held → (b ≡ 0x01) ⊎ (b ≡ 0x02)) → (l : Last) × (last_of b ≡ Some l) × (last_fits held l ≡ true)
+last_known : (b held : ℕ) → (held ≡ 0 → b ≡ 0x00) → (0 < held → (b ≡ 0x01) ⊎ (b ≡ 0x02)) → (l : Option Kind) × (last_of b ≡ Some l) × (last_fits held l ≡ true)
 last_known b held n s = ⊎_elim filled empty (cases_lt 0 held) where
-  empty : held ≤ 0 → (l : Last) × (last_of b ≡ Some l) × (last_fits held l ≡ true)
-  empty h = let z : held ≡ 0 = omega arith in (Nothing, ap last_of (n z), eq-eqb held 0 z)
+  empty : held ≤ 0 → (l : Option Kind) × (last_of b ≡ Some l) × (last_fits held l ≡ true)
+  empty h = let z : held ≡ 0 = omega arith in (None, ap last_of (n z), eq-eqb held 0 z)
 
-  filled : 0 < held → (l : Last) × (last_of b ≡ Some l) × (last_fits held l ≡ true)
-  filled h = ⊎_elim (λ e. (Ride, ap last_of e, lt-ltb 0 held h)) (λ e. (Cancel, ap last_of e, lt-ltb 0 held h)) (s h)
+  filled : 0 < held → (l : Option Kind) × (last_of b ≡ Some l) × (last_fits held l ≡ true)
+  filled h = ⊎_elim (λ e. (Some Ride, ap last_of e, lt-ltb 0 held h)) (λ e. (Some Cancel, ap last_of e, lt-ltb 0 held h)) (s h)
 
 filling_test : (next held : ℕ) → (held < 10 → next ≡ held) → (leb 10 held || eqb next held) ≡ true
 filling_test next held f = ⊎_elim (λ h. let e = eq-eqb next held (f h) in grind (arith, nat_tests)) (λ h. grind (arith, nat_tests)) (cases_lt held 10)
 
-purse_complete : (one two : List ℕ) → PurseKept one two → (l : Last) × (last_of (last_in two) ≡ Some l) × (purse_fits (limits_in one) (purse_in two l) ≡ true)
+purse_complete : (one two : List ℕ) → PurseKept one two → (l : Option Kind) × (last_of (last_in two) ≡ Some l) × (purse_fits (limits_in one) (purse_in two l) ≡ true)
 purse_complete one two k =
     let l = last_known (last_in two) (held_in two) k.none k.some in (
       l.0,
       l.1,
-      all_both _ _ (le-leb _ _ k.within)
-          (all_both _ _ (le-leb _ _ k.next)
-          (all_both _ _ (le-leb _ _ k.held)
-          (all_both _ _ (filling_test (next_in two) (held_in two) k.filling) l.2))),
+      and_from _ _ (le-leb _ _ k.within)
+          (and_from _ _ (le-leb _ _ k.next)
+          (and_from _ _ (le-leb _ _ k.held)
+          (and_from _ _ (filling_test (next_in two) (held_in two) k.filling) l.2))),
     )
 
 -- The newest record.
-newest_kinds : (b : ℕ) (l : Last) (k : Kind) → last_byte l ≡ b → kind_fits l k ≡ true → (b ≡ 0x01 → kind_byte k ≡ 0x20) × (b ≡ 0x02 → kind_byte k ≡ 0x22)
-newest_kinds b Nothing k e f = absurd (grind arith)
-newest_kinds b Ride ride_kind e f = (λ _. refl, λ h. grind arith)
-newest_kinds b Ride cancel_kind e f = absurd (grind arith)
-newest_kinds b Cancel ride_kind e f = absurd (grind arith)
-newest_kinds b Cancel cancel_kind e f = (λ h. grind arith, λ _. refl)
+newest_kinds : (b : ℕ) (l : Option Kind) (k : Kind) → last_byte l ≡ b → kind_fits l k ≡ true → (b ≡ 0x01 → kind_byte k ≡ 0x20) × (b ≡ 0x02 → kind_byte k ≡ 0x22)
+newest_kinds b None k e f = absurd (grind arith)
+newest_kinds b (Some Ride) Ride e f = (λ _. refl, λ h. grind arith)
+newest_kinds b (Some Ride) Cancel e f = absurd (grind arith)
+newest_kinds b (Some Cancel) Ride e f = absurd (grind arith)
+newest_kinds b (Some Cancel) Cancel e f = (λ h. grind arith, λ _. refl)
 
-newest_amount : (b amount total : ℕ) (l : Last) → last_byte l ≡ b → amount_fits l amount total ≡ true → b ≡ 0x01 → amount ≤ total
-newest_amount b amount total Nothing e f h = grind arith
-newest_amount b amount total Ride e f h = leb-true amount total f
-newest_amount b amount total Cancel e f h = grind arith
+newest_amount : (b amount total : ℕ) (l : Option Kind) → last_byte l ≡ b → amount_fits l amount total ≡ true → b ≡ 0x01 → amount ≤ total
+newest_amount b amount total None e f h = grind arith
+newest_amount b amount total (Some Ride) e f h = leb-true amount total f
+newest_amount b amount total (Some Cancel) e f h = grind arith
 
-newest_sound : (two xs : List ℕ) (l : Last) (k : Kind) → last_byte l ≡ last_in two → kind_of (record_kind_in xs) ≡ Some k → newest_fits (purse_in two l) (record_in xs k) ≡ true → NewestKept two xs
+newest_sound : (two xs : List ℕ) (l : Option Kind) (k : Kind) → last_byte l ≡ last_in two → kind_of (record_kind_in xs) ≡ Some k → newest_fits (purse_in two l) (record_in xs k) ≡ true → NewestKept two xs
 newest_sound two xs l k b e f =
     let p = and_parts _ _ f in
     let q = and_parts _ _ p.1 in
@@ -151,18 +137,18 @@ newest_sound two xs l k b e f =
       amount = newest_amount (last_in two) (record_amount_in xs) (total_in two) l b r.1;
     }
 
-newest_known : (b c amount total : ℕ) (l : Last) → last_byte l ≡ b → (b ≡ 0x01) ⊎ (b ≡ 0x02) → (b ≡ 0x01 → c ≡ 0x20) → (b ≡ 0x02 → c ≡ 0x22) → (b ≡ 0x01 → amount ≤ total) →
+newest_known : (b c amount total : ℕ) (l : Option Kind) → last_byte l ≡ b → (b ≡ 0x01) ⊎ (b ≡ 0x02) → (b ≡ 0x01 → c ≡ 0x20) → (b ≡ 0x02 → c ≡ 0x22) → (b ≡ 0x01 → amount ≤ total) →
     (k : Kind) × (kind_of c ≡ Some k) × (kind_fits l k ≡ true) × (amount_fits l amount total ≡ true)
-newest_known b c amount total Nothing e (inl h) r x a = absurd (omega arith)
-newest_known b c amount total Nothing e (inr h) r x a = absurd (omega arith)
-newest_known b c amount total Ride e s r x a = (ride_kind, ap kind_of (r (sym e)), refl, le-leb amount total (a (sym e)))
-newest_known b c amount total Cancel e s r x a = (cancel_kind, ap kind_of (x (sym e)), refl, refl)
+newest_known b c amount total None e (inl h) r x a = absurd (omega arith)
+newest_known b c amount total None e (inr h) r x a = absurd (omega arith)
+newest_known b c amount total (Some Ride) e s r x a = (Ride, ap kind_of (r (sym e)), refl, le-leb amount total (a (sym e)))
+newest_known b c amount total (Some Cancel) e s r x a = (Cancel, ap kind_of (x (sym e)), refl, refl)
 
-newest_complete : (two xs : List ℕ) (l : Last) → last_byte l ≡ last_in two → (last_in two ≡ 0x01) ⊎ (last_in two ≡ 0x02) → NewestKept two xs →
+newest_complete : (two xs : List ℕ) (l : Option Kind) → last_byte l ≡ last_in two → (last_in two ≡ 0x01) ⊎ (last_in two ≡ 0x02) → NewestKept two xs →
     (k : Kind) × (kind_of (record_kind_in xs) ≡ Some k) × (newest_fits (purse_in two l) (record_in xs k) ≡ true)
 newest_complete two xs l b s n =
     let k = newest_known (last_in two) (record_kind_in xs) (record_amount_in xs) (total_in two) l b s n.ride n.cancel n.amount in
-    (k.0, k.1, all_both _ _ k.2 (all_both _ _ (eq-eqb _ _ n.total) (all_both _ _ (le-leb _ _ n.nt) k.3)))
+    (k.0, k.1, and_from _ _ k.2 (and_from _ _ (eq-eqb _ _ n.total) (and_from _ _ (le-leb _ _ n.nt) k.3)))
 
 -- The card.
 -- what pages 0, 1, 2 and 11 had to keep, and what was read of page 2
@@ -171,7 +157,7 @@ record FirstKept (first one two eleven : List ℕ) (f : FirstPages) : Type 0 whe
   limits : Zeros (part 8 8 one)
   purse : PurseKept one two
   unused : Zeros eleven
-  last : Last
+  last : Option Kind
   code : last_byte last ≡ last_in two
   is : f.purse ≡ purse_in two last
 
@@ -185,10 +171,10 @@ first_sound first one two eleven f e =
     let y = only_if_some _ _ _ t.2 in
     let r = only_if_some _ _ _ u.2 in
     let p = only_if_some _ _ _ r.1 in
-    let one_is : limits_in one ≡ l.0 = some_same _ _ z.1 in
-    let two_is : purse_in two t.0 ≡ u.0 = some_same _ _ y.1 in
+    let one_is : limits_in one ≡ l.0 = same_Some _ _ z.1 in
+    let two_is : purse_in two t.0 ≡ u.0 = same_Some _ _ y.1 in
     let fits : purse_fits (limits_in one) (purse_in two t.0) ≡ true = ap₂ purse_fits one_is two_is ∙ p.0 in
-    let f_is = some_same _ _ p.1 in
+    let f_is = same_Some _ _ p.1 in
     record {
       header = header_sound first h.0 h.1;
       limits = zeros_sound _ z.0;
@@ -200,16 +186,16 @@ first_sound first one two eleven f e =
     }
 
 first_complete : (first one two eleven : List ℕ) → HeaderKept first → Zeros (part 8 8 one) → PurseKept one two → Zeros eleven →
-    (f : FirstPages) × (first_pages_of first one two eleven ≡ Some f) × ((l : Last) × (last_byte l ≡ last_in two) × (f.purse ≡ purse_in two l))
+    (f : FirstPages) × (first_pages_of first one two eleven ≡ Some f) × ((l : Option Kind) × (last_byte l ≡ last_in two) × (f.purse ≡ purse_in two l))
 first_complete first one two eleven h z u r =
     let x = header_complete first h in
     let l = purse_complete one two u in (
       record { header = x.0; limits = limits_in one; purse = purse_in two l.0 },
       and_then_at _ _ _ x.1
-          ∙ and_then_at _ _ (limits_in one) (only_if_at _ _ (zeros_complete _ z))
-          ∙ and_then_at _ _ (purse_in two l.0) (and_then_at _ _ _ l.1 ∙ only_if_at _ _ (zeros_complete _ u.zeros))
-          ∙ only_if_at _ _ (zeros_complete _ r)
-          ∙ only_if_at _ _ l.2,
+          ∙ and_then_at _ _ (limits_in one) (cond-true _ _ _ (zeros_complete _ z))
+          ∙ and_then_at _ _ (purse_in two l.0) (and_then_at _ _ _ l.1 ∙ cond-true _ _ _ (zeros_complete _ u.zeros))
+          ∙ cond-true _ _ _ (zeros_complete _ r)
+          ∙ cond-true _ _ _ l.2,
       (l.0, last_written _ _ l.1, refl),
     )
 
@@ -232,7 +218,7 @@ card_sound p v e =
     let r = and_then_some _ _ _ w in
     let q = and_then_some _ _ _ r.1 in
     let t = only_if_some _ _ _ r.2 in
-    let r_is : record_in (newest_bytes p) q.0 ≡ r.0 = some_same _ _ q.2 in
+    let r_is : record_in (newest_bytes p) q.0 ≡ r.0 = same_Some _ _ q.2 in
     let fits : newest_fits (purse_in two k.last) (record_in (newest_bytes p) q.0) ≡ true = ap₂ newest_fits (sym k.is) r_is ∙ t.0 in
     newest_sound two (newest_bytes p) k.last q.0 k.code q.1 fits in
     record { room = leb-true _ _ n.0; header = k.header; limits = k.limits; purse = k.purse; unused = k.unused; newest = newest }
@@ -241,14 +227,14 @@ pub card_complete : (p : Pages) → IsCard p → is_some (card_of p) ≡ true
 card_complete p c =
     let two : List ℕ = page p 2 in
     let f = first_complete (page p 0) (page p 1) (page p 2) (page p 11) c.header c.limits c.purse c.unused in
-    let l : Last = f.2.0 in
+    let l : Option Kind = f.2.0 in
     let is : f.0.purse ≡ purse_in two l = f.2.2 in
-    let start : card_of p ≡ with_newest (newest_slot f.0.purse) f.0 p = only_if_at _ _ (le-leb _ _ c.room) ∙ and_then_at _ _ _ f.1 in
+    let start : card_of p ≡ with_newest (newest_slot f.0.purse) f.0 p = cond-true _ _ _ (le-leb _ _ c.room) ∙ and_then_at _ _ _ f.1 in
     let held : 0 < held_in two → is_some (card_of p) ≡ true = λ h.
     let slot : newest_slot f.0.purse ≡ Some ((next_in two + 9) % 10) = rw is (slot_held (purse_in two l) h) in
     let k = newest_complete two (newest_bytes p) l f.2.1 (c.purse.some h) (c.newest h) in
     let fits : newest_fits f.0.purse (record_in (newest_bytes p) k.0) ≡ true = rw is k.2 in
-    ap is_some (start ∙ ap (λ o. with_newest o f.0 p) slot ∙ and_then_at _ _ (record_in (newest_bytes p) k.0) (and_then_at _ _ _ k.1) ∙ only_if_at _ _ fits) in
+    ap is_some (start ∙ ap (λ o. with_newest o f.0 p) slot ∙ and_then_at _ _ (record_in (newest_bytes p) k.0) (and_then_at _ _ _ k.1) ∙ cond-true _ _ _ fits) in
     let empty : held_in two ≤ 0 → is_some (card_of p) ≡ true = λ h.
     let slot : newest_slot f.0.purse ≡ None = rw is (slot_none (purse_in two l) (omega arith)) in
     ap is_some (start ∙ ap (λ o. with_newest o f.0 p) slot) in
@@ -263,11 +249,11 @@ card_decides p r e = let P : Option CardView → Type 0 = λ o. Decides (is_some
 
 -- what a card is read to hold is what page 2 says
 newest_purse : (o : Option ℕ) (f : FirstPages) (p : Pages) (v : CardView) → with_newest o f p ≡ Some v → f.purse ≡ v.purse
-newest_purse None f p v e = ap (λ (w : CardView). w.purse) (some_same (view_with f None) v e)
+newest_purse None f p v e = ap (λ (w : CardView). w.purse) (same_Some (view_with f None) v e)
 newest_purse (Some s) f p v e =
     let r = and_then_some (record_of (slot_bytes p s)) (λ x. only_if (newest_fits f.purse x) (Some (view_with f (Some x)))) v e in
     let t = only_if_some (newest_fits f.purse r.0) (Some (view_with f (Some r.0))) v r.2 in
-    ap (λ (w : CardView). w.purse) (some_same (view_with f (Some r.0)) v t.1)
+    ap (λ (w : CardView). w.purse) (same_Some (view_with f (Some r.0)) v t.1)
 
 pub card_held : (p : Pages) (v : CardView) → card_of p ≡ Some v → v.purse.held ≡ held_in (page p 2)
 card_held p v e =

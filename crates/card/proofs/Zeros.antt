@@ -1,15 +1,17 @@
--- Bytes that are all 00: one more of them, and the list that they are.
-use Rattle.std.proofs.Common.{◌≡◌, ℕ, ◌+◌, ◌<◌, true, false, cond, List, [], ◌∷◌, length, get_or, drop, replicate, refl, ap, ◌∙◌, arith, eq-eqb, ne_eqb}
-use Rattle.std.proofs.lemmas.List.{at_drop_more}
+-- Bytes that are all 00: by the test, by their places, and the list that they are.
+use Rattle.std.proofs.Common.{◌≡◌, ℕ, zero, suc, true, ◌&&◌, List, [], ◌∷◌, length, replicate, refl, ap, ◌∙◌, arith, eq-eqb}
 use Rattle.std.proofs.lemmas.Bool.Decides.{nat_tests}
 use Rattle.card.specs.Bytes.{all_zero}
+use Rattle.card.specs.Rule.{Zeros}
 
-module _ (xs : List ℕ) (i : ℕ) (h : i < length xs) where
-  pub zero_stop : (get_or xs i 0 ≡ 0 → ⊥) → all_zero (drop i xs) ≡ false
-  zero_stop ne = at_drop_more all_zero xs i 0 h ∙ ap (λ b. cond b (all_zero (drop (i + 1) xs)) false) (ne_eqb _ _ ne)
+pub zeros_sound : (xs : List ℕ) → all_zero xs ≡ true → Zeros xs
+zeros_sound [] e k = refl
+zeros_sound (x ∷ xs) e zero = grind (arith, nat_tests)
+zeros_sound (x ∷ xs) e (suc k) = zeros_sound xs (grind (arith, nat_tests)) k
 
-  pub zero_more : get_or xs i 0 ≡ 0 → all_zero (drop i xs) ≡ all_zero (drop (i + 1) xs)
-  zero_more e = at_drop_more all_zero xs i 0 h ∙ ap (λ b. cond b (all_zero (drop (i + 1) xs)) false) (eq-eqb _ _ e)
+pub zeros_complete : (xs : List ℕ) → Zeros xs → all_zero xs ≡ true
+zeros_complete [] z = refl
+zeros_complete (x ∷ xs) z = ap (λ b. b && all_zero xs) (eq-eqb x 0 (z zero)) ∙ zeros_complete xs (λ k. z (suc k))
 
 pub zeros : (xs : List ℕ) → all_zero xs ≡ true → replicate (length xs) 0 ≡ xs
 zeros [] e = refl

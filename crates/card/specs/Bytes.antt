@@ -1,5 +1,6 @@
 -- Numbers of four bytes, highest first, and parts of a list of bytes.
-use Rattle.std.specs.Prelude.{◌≡◌, ℕ, ◌+◌, ◌*◌, ◌/◌, ◌%◌, ◌<◌, Bool, true, false, cond, List, [], ◌∷◌, length, take, drop, ◌==◌, slice_index}
+use Rattle.std.specs.Prelude.{◌≡◌, ℕ, ◌+◌, ◌*◌, ◌/◌, ◌%◌, ◌<◌, Bool, List, [], ◌∷◌, length, take, drop, ◌==◌, slice_index}
+use Rattle.std.specs.List.{list_all}
 
 -- the byte at i, 00 past the end
 abbrev pub byte : List ℕ → ℕ → ℕ
@@ -23,8 +24,7 @@ four n = (n / 16777216 % 256) ∷ (n / 65536 % 256) ∷ (n / 256 % 256) ∷ (n %
 
 -- nothing but 00
 abbrev pub all_zero : List ℕ → Bool
-all_zero [] = true
-all_zero (x ∷ xs) = cond (x == 0) (all_zero xs) false
+all_zero xs = list_all (λ x. x == 0) xs
 
 -- n bytes
 pub record Bytes (n : ℕ) (xs : List ℕ) : Type 0 where

@@ -1,6 +1,8 @@
 -- What issue and power-on answer the host, and how they leave the state.
 use Rattle.std.specs.Prelude.{◌≡◌, ℕ, ◌<◌, ◌≤◌, Bool, true, false, cond, not, List, [], ◌∷◌, length, is_some, Ok, Err, Result, nat_lt}
 use Rattle.std.specs.List.{range_with_len}
+use Rattle.memory.specs.declared.fault.Fault.{Fault}
+use Rattle.memory.specs.declared.fault.Fault.TheVariants.{PastEnd, Worn}
 use Rattle.card.specs.declared.host.HostRefusal.{HostRefusal}
 use Rattle.card.specs.declared.host.HostRefusal.TheVariants.{TooFewPages, WrongRecord, WornPage, NotACard}
 use Rattle.card.specs.declared.state.Selection.TheVariants.{Nothing}
@@ -16,6 +18,11 @@ host_number TooFewPages = 2
 host_number WrongRecord = 3
 host_number WornPage = 4
 host_number NotACard = 5
+
+-- what a refusal of the memory is to the host
+abbrev pub fault_refusal : Fault → HostRefusal
+fault_refusal PastEnd = TooFewPages
+fault_refusal Worn = WornPage
 
 -- one of the pages of the list is worn
 abbrev pub any_worn : (ℕ → Bool) → List ℕ → Bool

@@ -1,11 +1,9 @@
 -- The card that pages are, worked out page by page. The rule that it meets, a list of conditions, is `IsCard` of Rule.antt.
 use Rattle.std.specs.Prelude.{ℕ, Bool, true, false, ◌&&◌, ◌||◌, List, length, Some, None, Option, ◌==◌, nat_le, nat_lt}
 use Rattle.card.specs.declared.limits.Limits.{Limits}
-use Rattle.card.specs.declared.purse.Last.{Last}
-use Rattle.card.specs.declared.purse.Last.TheVariants.{Nothing, Ride, Cancel}
 use Rattle.card.specs.declared.purse.Purse.{Purse}
 use Rattle.card.specs.declared.record.Kind.{Kind}
-use Rattle.card.specs.declared.record.Kind.TheVariants.{Ride as ride_kind, Cancel as cancel_kind}
+use Rattle.card.specs.declared.record.Kind.TheVariants.{Ride, Cancel}
 use Rattle.card.specs.declared.record.Record.{Record}
 use Rattle.card.specs.declared.view.FirstPages.{FirstPages}
 use Rattle.card.specs.declared.view.CardView.{CardView}
@@ -17,30 +15,26 @@ use Rattle.card.specs.Purse.{purse_of, newest_slot}
 use Rattle.card.specs.Record.{record_of}
 use Rattle.card.specs.Pages.{Pages, page, slot_bytes}
 
--- last is 00 exactly where nothing is held
-abbrev pub last_fits : ℕ → Last → Bool
-last_fits held Nothing = held == 0
-last_fits held Ride = nat_lt 0 held
-last_fits held Cancel = nat_lt 0 held
+-- there is a newest record exactly where records are held
+abbrev pub last_fits : ℕ → Option Kind → Bool
+last_fits held None = held == 0
+last_fits held (Some kind) = nat_lt 0 held
 
 -- what page 2 is to keep
 abbrev pub purse_fits : Limits → Purse → Bool
 purse_fits l u =
     nat_le u.total l.limit && (nat_le u.next 9 && (nat_le u.held 10 && ((nat_le 10 u.held || u.next == u.held) && last_fits u.held u.last)))
 
--- the kind of record that each last stands for
-abbrev pub kind_fits : Last → Kind → Bool
-kind_fits Nothing kind = false
-kind_fits Ride ride_kind = true
-kind_fits Ride cancel_kind = false
-kind_fits Cancel ride_kind = false
-kind_fits Cancel cancel_kind = true
+-- the newest record is of the kind that page 2 says
+abbrev pub kind_fits : Option Kind → Kind → Bool
+kind_fits (Some Ride) Ride = true
+kind_fits (Some Cancel) Cancel = true
+kind_fits last kind = false
 
 -- for a ride, the amount is at most the total
-abbrev pub amount_fits : Last → ℕ → ℕ → Bool
-amount_fits Nothing amount total = true
-amount_fits Ride amount total = nat_le amount total
-amount_fits Cancel amount total = true
+abbrev pub amount_fits : Option Kind → ℕ → ℕ → Bool
+amount_fits (Some Ride) amount total = nat_le amount total
+amount_fits last amount total = true
 
 -- what the newest record is to keep
 abbrev pub newest_fits : Purse → Record → Bool

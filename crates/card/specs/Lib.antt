@@ -11,3 +11,4 @@ pub mod Rule
 pub mod Issue
 pub mod Calls
 pub mod Sample
+pub mod Words

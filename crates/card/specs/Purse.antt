@@ -2,17 +2,18 @@
 use Rattle.std.specs.Prelude.{ℕ, ◌+◌, ◌%◌, cond, List, ◌∷◌, ◌++◌, replicate, Some, None, Option, ◌==◌}
 use Rattle.card.specs.Bytes.{byte, four, word_at, part, all_zero}
 use Rattle.card.specs.Options.{and_then, only_if}
-use Rattle.card.specs.declared.purse.Last.{Last}
-use Rattle.card.specs.declared.purse.Last.TheVariants.{Nothing, Ride, Cancel}
+use Rattle.card.specs.declared.record.Kind.{Kind}
+use Rattle.card.specs.declared.record.Kind.TheVariants.{Ride, Cancel}
 use Rattle.card.specs.declared.purse.Purse.{Purse}
 
-abbrev pub last_byte : Last → ℕ
-last_byte Nothing = 0x00
-last_byte Ride = 0x01
-last_byte Cancel = 0x02
+-- last: 00 where nothing is held, or the kind of the newest record, in codes of its own
+abbrev pub last_byte : Option Kind → ℕ
+last_byte None = 0x00
+last_byte (Some Ride) = 0x01
+last_byte (Some Cancel) = 0x02
 
-abbrev pub last_of : ℕ → Option Last
-last_of b = cond (b == 0x00) (Some Nothing) (cond (b == 0x01) (Some Ride) (cond (b == 0x02) (Some Cancel) None))
+abbrev pub last_of : ℕ → Option (Option Kind)
+last_of b = cond (b == 0x00) (Some None) (cond (b == 0x01) (Some (Some Ride)) (cond (b == 0x02) (Some (Some Cancel)) None))
 
 abbrev pub total_in : List ℕ → ℕ
 total_in page = word_at 0 page
@@ -33,7 +34,7 @@ last_in page = byte page 10
 abbrev pub purse_bytes : Purse → List ℕ
 purse_bytes u = four u.total ++ (four u.nt ++ (u.next ∷ u.held ∷ last_byte u.last ∷ replicate 5 0))
 
-abbrev pub purse_in : List ℕ → Last → Purse
+abbrev pub purse_in : List ℕ → Option Kind → Purse
 purse_in page last = record { total = total_in page; nt = nt_in page; next = next_in page; held = held_in page; last = last }
 
 -- the purse in a page; none where last is no code of one, or a fixed 00 is missing

@@ -1,25 +1,27 @@
 ghost use Rattle.std.specs.Prelude.{◌≡◌};
-ghost use Rattle.card.specs.Codec.{RoundTrip};
+ghost use Rattle.card.specs.Codec.{Decoded};
 ghost use Rattle.card.specs.Header.{life_cycle_byte, life_cycle_of, block_flag_byte, block_flag_of, header_bytes, header_of};
 
-use crate::bytes::all_zero;
+use crate::bytes::{all_zero, part_at};
+use crate::code::UnknownCode;
+use crate::codec::Codec;
 
 // Whether the card is before use or in use. Before use it takes no transaction.
-#[derive(Clone, Copy)]
+#[derive(Clone, Copy, PartialEq, Eq, Debug)]
 pub enum LifeCycle {
     BeforeUse,
     InUse,
 }
 
 // Whether the card is blocked. It then serves SELECT FILE, GET CHALLENGE and UNBLOCK alone.
-#[derive(Clone, Copy)]
+#[derive(Clone, Copy, PartialEq, Eq, Debug)]
 pub enum BlockFlag {
     Free,
     Blocked,
 }
 
 // What page 0 holds.
-#[derive(Clone, Copy)]
+#[derive(Clone, Copy, PartialEq, Eq, Debug)]
 pub struct Header {
     pub life: LifeCycle,
     pub block: BlockFlag,
@@ -33,88 +35,86 @@ pub struct Header {
     pub idep: [u8; 8],
 }
 
-impl LifeCycle {
-    fn from_byte(byte: u8) -> Option<LifeCycle>
-        ensures { result ≡ life_cycle_of byte }
-    {
+impl TryFrom<u8> for LifeCycle {
+    type Error = UnknownCode;
+
+    ghost try_from_gives = { λ byte r. Decoded (life_cycle_of byte) byte r };
+
+    fn try_from(byte: u8) -> Result<LifeCycle, UnknownCode> {
         match byte {
-            0x03 => Some(LifeCycle::BeforeUse),
-            0x07 => Some(LifeCycle::InUse),
-            _ => None,
+            0x03 => Ok(LifeCycle::BeforeUse),
+            0x07 => Ok(LifeCycle::InUse),
+            _ => Err(UnknownCode(byte)),
         }
     }
+}
 
-    fn byte(self) -> u8
-        ensures { result ≡ life_cycle_byte self }
-    {
-        match self {
+impl From<LifeCycle> for u8 {
+    ghost from_gives = { λ life byte. byte ≡ life_cycle_byte life };
+
+    fn from(life: LifeCycle) -> u8 {
+        match life {
             LifeCycle::BeforeUse => 0x03,
             LifeCycle::InUse => 0x07,
         }
     }
 }
 
-impl BlockFlag {
-    fn from_byte(byte: u8) -> Option<BlockFlag>
-        ensures { result ≡ block_flag_of byte }
-    {
+impl TryFrom<u8> for BlockFlag {
+    type Error = UnknownCode;
+
+    ghost try_from_gives = { λ byte r. Decoded (block_flag_of byte) byte r };
+
+    fn try_from(byte: u8) -> Result<BlockFlag, UnknownCode> {
         match byte {
-            0x00 => Some(BlockFlag::Free),
-            0x01 => Some(BlockFlag::Blocked),
-            _ => None,
+            0x00 => Ok(BlockFlag::Free),
+            0x01 => Ok(BlockFlag::Blocked),
+            _ => Err(UnknownCode(byte)),
         }
     }
+}
 
-    fn byte(self) -> u8
-        ensures { result ≡ block_flag_byte self }
-    {
-        match self {
+impl From<BlockFlag> for u8 {
+    ghost from_gives = { λ block byte. byte ≡ block_flag_byte block };
+
+    fn from(block: BlockFlag) -> u8 {
+        match block {
             BlockFlag::Free => 0x00,
             BlockFlag::Blocked => 0x01,
         }
     }
 }
 
-impl Header {
+impl Codec<16> for Header {
+    ghost writes = { header_bytes };
+
+    ghost reads = { header_of };
+
     // None where a byte is no life cycle or no block flag, or a fixed 00 is missing.
-    pub fn decode(page: [u8; 16]) -> Option<Header>
-        ensures { result ≡ header_of page }
-    {
-        let life = LifeCycle::from_byte(page[0])?;
-        let block = BlockFlag::from_byte(page[1])?;
+    fn decode(page: &[u8; 16]) -> Option<Header> {
+        let life = LifeCycle::try_from(page[0]).ok()?;
+        let block = BlockFlag::try_from(page[1]).ok()?;
         if !all_zero(&page[5..8]) {
             return None;
         }
-        let mut idep = [0; 8];
-        idep.copy_from_slice(&page[8..16]);
         Some(Header {
             life,
             block,
             algorithm: page[2],
             version: page[3],
             idcenter: page[4],
-            idep,
+            idep: part_at(page, 8),
         })
     }
 
-    // The bytes of page 0.
-    fn to_bytes(self) -> [u8; 16]
-        ensures { result ≡ header_bytes self }
-    {
+    fn encode(self) -> [u8; 16] {
         let mut page = [0; 16];
-        page[0] = self.life.byte();
-        page[1] = self.block.byte();
+        page[0] = u8::from(self.life);
+        page[1] = u8::from(self.block);
         page[2] = self.algorithm;
         page[3] = self.version;
         page[4] = self.idcenter;
         page[8..16].copy_from_slice(&self.idep);
         page
-    }
-
-    pub fn encode(self) -> [u8; 16]
-        ensures page { result ≡ header_bytes self }
-        ensures back { RoundTrip 16 header_bytes header_of self }
-    {
-        self.to_bytes()
     }
 }

@@ -1,5 +1,7 @@
 ghost use Rattle.std.specs.Prelude.{◌≡◌};
-ghost use Rattle.card.specs.Calls.{host_number};
+ghost use Rattle.card.specs.Calls.{host_number, fault_refusal};
+
+use memory::Fault;
 
 // Why a call of the host cannot be served. Nothing that the host handed over has changed then.
 #[derive(Clone, Copy, PartialEq, Eq, Debug)]
@@ -16,6 +18,7 @@ pub enum HostRefusal {
 
 impl HostRefusal {
     // The number by which the host is told.
+    // Form: a method, since `u8::from(refusal)` would not say which number is meant.
     pub fn number(self) -> u8
         ensures { result ≡ host_number self }
     {
@@ -24,6 +27,18 @@ impl HostRefusal {
             HostRefusal::WrongRecord => 3,
             HostRefusal::WornPage => 4,
             HostRefusal::NotACard => 5,
+        }
+    }
+}
+
+// What a refusal of the memory is to the host: where a page is not there, the memory has too few pages.
+impl From<Fault> for HostRefusal {
+    ghost from_gives = { λ fault refusal. refusal ≡ fault_refusal fault };
+
+    fn from(fault: Fault) -> HostRefusal {
+        match fault {
+            Fault::PastEnd => HostRefusal::TooFewPages,
+            Fault::Worn => HostRefusal::WornPage,
         }
     }
 }

@@ -1,44 +1,37 @@
 ghost use Rattle.std.specs.Prelude.{◌≡◌};
-ghost use Rattle.card.specs.Codec.{RoundTrip};
 ghost use Rattle.card.specs.Limits.{limits_bytes, limits_of};
 
 use crate::bytes::{all_zero, word_at};
+use crate::codec::Codec;
 
 // What page 1 holds, in whole won: the most that a ride may cost, and the most that the total may be.
-#[derive(Clone, Copy)]
+#[derive(Clone, Copy, PartialEq, Eq, Debug)]
 pub struct Limits {
     pub ceiling: u32,
     pub limit: u32,
 }
 
-impl Limits {
+impl Codec<16> for Limits {
+    ghost writes = { limits_bytes };
+
+    ghost reads = { limits_of };
+
     // None where a fixed 00 is missing.
-    pub fn decode(page: [u8; 16]) -> Option<Limits>
-        ensures { result ≡ limits_of page }
-    {
+    fn decode(page: &[u8; 16]) -> Option<Limits> {
         if !all_zero(&page[8..16]) {
             return None;
         }
         Some(Limits {
-            ceiling: word_at(&page, 0),
-            limit: word_at(&page, 4),
+            ceiling: word_at(page, 0),
+            limit: word_at(page, 4),
         })
     }
 
-    // The bytes of page 1.
-    fn to_bytes(self) -> [u8; 16]
-        ensures { result ≡ limits_bytes self }
-    {
+    #[tactic(auto, using(crate::proofs::RoundTrips::limits_round))]
+    fn encode(self) -> [u8; 16] {
         let mut page = [0; 16];
         page[0..4].copy_from_slice(&self.ceiling.to_be_bytes());
         page[4..8].copy_from_slice(&self.limit.to_be_bytes());
         page
-    }
-
-    pub fn encode(self) -> [u8; 16]
-        ensures page { result ≡ limits_bytes self }
-        ensures back { RoundTrip 16 limits_bytes limits_of self }
-    {
-        self.to_bytes()
     }
 }

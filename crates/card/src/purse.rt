@@ -1,20 +1,13 @@
 ghost use Rattle.std.specs.Prelude.{◌≡◌, ◌∷◌, ◌++◌, replicate};
 ghost use Rattle.card.specs.Bytes.{four};
-ghost use Rattle.card.specs.Codec.{RoundTrip};
 ghost use Rattle.card.specs.Purse.{last_byte, last_of, purse_bytes, purse_of, newest_slot};
 
 use crate::bytes::{all_zero, word_at};
-
-// What the newest record is: none where nothing is held, a ride, which can be repeated and cancelled, or a cancel.
-#[derive(Clone, Copy)]
-pub enum Last {
-    Nothing,
-    Ride,
-    Cancel,
-}
+use crate::codec::Codec;
+use crate::record::Kind;
 
 // What page 2 holds.
-#[derive(Clone, Copy)]
+#[derive(Clone, Copy, PartialEq, Eq, Debug)]
 pub struct Purse {
     // in whole won
     pub total: u32,
@@ -24,91 +17,68 @@ pub struct Purse {
     pub next: u8,
     // how many records the log holds, 0 to 10
     pub held: u8,
-    pub last: Last,
+    // what the newest record is: none where nothing is held, a ride, which can be repeated and cancelled, or a cancel
+    pub last: Option<Kind>,
 }
 
-impl Last {
-    fn from_byte(byte: u8) -> Option<Last>
-        ensures { result ≡ last_of byte }
-    {
-        match byte {
-            0x00 => Some(Last::Nothing),
-            0x01 => Some(Last::Ride),
-            0x02 => Some(Last::Cancel),
-            _ => None,
-        }
-    }
-
-    fn byte(self) -> u8
-        ensures { result ≡ last_byte self }
-    {
-        match self {
-            Last::Nothing => 0x00,
-            Last::Ride => 0x01,
-            Last::Cancel => 0x02,
-        }
+// The last that the byte is the code of; none where it is no code.
+// Form: two functions, as TryFrom and From cannot be written here for an Option, and a type around one would be no plainer.
+fn last_from_byte(byte: u8) -> Option<Option<Kind>>
+    ensures { result ≡ last_of byte }
+{
+    match byte {
+        0x00 => Some(None),
+        0x01 => Some(Some(Kind::Ride)),
+        0x02 => Some(Some(Kind::Cancel)),
+        _ => None,
     }
 }
 
-impl Purse {
+fn last_byte(last: Option<Kind>) -> u8
+    ensures { result ≡ last_byte last }
+{
+    match last {
+        None => 0x00,
+        Some(Kind::Ride) => 0x01,
+        Some(Kind::Cancel) => 0x02,
+    }
+}
+
+impl Codec<16> for Purse {
+    ghost writes = { purse_bytes };
+
+    ghost reads = { purse_of };
+
     // None where last is no code, or a fixed 00 is missing.
-    pub fn decode(page: [u8; 16]) -> Option<Purse>
-        ensures { result ≡ purse_of page }
-    {
-        let last = Last::from_byte(page[10])?;
+    fn decode(page: &[u8; 16]) -> Option<Purse> {
+        let last = last_from_byte(page[10])?;
         if !all_zero(&page[11..16]) {
             return None;
         }
         Some(Purse {
-            total: word_at(&page, 0),
-            nt: word_at(&page, 4),
+            total: word_at(page, 0),
+            nt: word_at(page, 4),
             next: page[8],
             held: page[9],
             last,
         })
     }
 
-    // Total and NT.
-    fn counters(self) -> [u8; 8]
-        ensures { result ≡ four self.total ++ four self.nt }
-    {
-        let mut bytes = [0; 8];
-        bytes[0..4].copy_from_slice(&self.total.to_be_bytes());
-        bytes[4..8].copy_from_slice(&self.nt.to_be_bytes());
-        bytes
-    }
-
-    // The state of the log: next, held and last, and five 00.
-    fn log_bytes(self) -> [u8; 8]
-        ensures { result ≡ self.next ∷ self.held ∷ last_byte self.last ∷ replicate 5 0 }
-    {
-        [self.next, self.held, self.last.byte(), 0, 0, 0, 0, 0]
-    }
-
-    // The bytes of page 2.
-    fn to_bytes(self) -> [u8; 16]
-        ensures { result ≡ purse_bytes self }
-    {
+    #[tactic(auto, using(crate::proofs::RoundTrips::purse_round))]
+    fn encode(self) -> [u8; 16] {
         let mut page = [0; 16];
-        page[0..8].copy_from_slice(&self.counters());
-        page[8..16].copy_from_slice(&self.log_bytes());
+        page[0..4].copy_from_slice(&self.total.to_be_bytes());
+        page[4..8].copy_from_slice(&self.nt.to_be_bytes());
+        page[8..11].copy_from_slice(&[self.next, self.held, last_byte(self.last)]);
         page
     }
+}
 
-    pub fn encode(self) -> [u8; 16]
-        ensures page { result ≡ purse_bytes self }
-        ensures back { RoundTrip 16 purse_bytes purse_of self }
-    {
-        self.to_bytes()
-    }
-
+impl Purse {
     // The slot of the newest record; where nothing is held there is none.
     pub fn newest_slot(&self) -> Option<u8>
         ensures { result ≡ newest_slot self.now }
     {
-        if self.held == 0 {
-            return None;
-        }
-        Some(((u16::from(self.next) + 9) % 10) as u8)
+        (self.held > 0).then(|| ((u16::from(self.next) + 9) % 10) as u8)
     }
 }

@@ -1,116 +1,52 @@
 ghost use Rattle.std.specs.Prelude.{◌≡◌, ◌<◌, ◌≤◌, ◌++◌, length, is_some};
-ghost use Rattle.card.specs.Card.{last_fits, purse_fits, kind_fits, amount_fits, newest_fits, first_pages_of, view_with, with_newest, card_of};
-ghost use Rattle.card.specs.Pages.{page as page_of, slot_bytes};
+ghost use Rattle.card.specs.Card.{last_fits, purse_fits, amount_fits, newest_fits, first_pages_of, view_with, with_newest, card_of};
 ghost use Rattle.card.specs.Purse.{newest_slot};
 ghost use Rattle.card.specs.Rule.{IsCard, Decides};
 
 use crate::bytes::all_zero;
+use crate::codec::Codec;
 use crate::header::Header;
 use crate::limits::Limits;
-use crate::purse::{Last, Purse};
+use crate::pages::CardPages;
+use crate::purse::Purse;
 use crate::record::{Kind, Record};
 use crate::view::{CardView, FirstPages};
 use memory::Memory;
 
-// A page that is there.
-pub fn page_at<M: Memory>(memory: &M, page: usize) -> [u8; 16]
-    requires { page < length (M.pages memory.now) }
-    ensures { result ≡ page_of (M.pages memory.now) page }
-{
-    match memory.read(page) {
-        Ok(bytes) => bytes,
-        Err(_) => unreachable(),
-    }
-}
-
-// Two pages, one after the other.
-fn joined(first: [u8; 16], second: [u8; 16]) -> [u8; 32]
-    ensures { result ≡ first ++ second }
-{
-    let mut bytes = [0; 32];
-    bytes[0..16].copy_from_slice(&first);
-    bytes[16..32].copy_from_slice(&second);
-    bytes
-}
-
-// The 32 bytes of a slot of the log.
-fn slot_at<M: Memory>(memory: &M, slot: u8) -> [u8; 32]
-    requires { (32 ≤ length (M.pages memory.now)) × (slot < 10) }
-    ensures { result ≡ slot_bytes (M.pages memory.now) slot }
-{
-    let first = 12 + 2 * usize::from(slot);
-    let second = 13 + 2 * usize::from(slot);
-    joined(page_at(memory, first), page_at(memory, second))
-}
-
-impl Last {
-    // Whether this value of last is allowed where `held` records are held.
-    fn fits(self, held: u8) -> bool
-        ensures { result ≡ last_fits held self }
-    {
-        match self {
-            Last::Nothing => held == 0,
-            Last::Ride => held > 0,
-            Last::Cancel => held > 0,
-        }
-    }
-
-    // Whether this stands for a record of that kind.
-    fn fits_kind(self, kind: Kind) -> bool
-        ensures { result ≡ kind_fits self kind }
-    {
-        match (self, kind) {
-            (Last::Ride, Kind::Ride) => true,
-            (Last::Cancel, Kind::Cancel) => true,
-            _ => false,
-        }
-    }
-
-    fn fits_amount(self, amount: u32, total: u32) -> bool
-        ensures { result ≡ amount_fits self amount total }
-    {
-        match self {
-            Last::Ride => amount <= total,
-            Last::Nothing => true,
-            Last::Cancel => true,
-        }
-    }
-}
-
 impl Purse {
+    // Whether there is a newest record exactly where records are held.
+    fn last_fits(&self) -> bool
+        ensures { result ≡ last_fits self.now.held self.now.last }
+    {
+        self.last.is_some() == (self.held > 0)
+    }
+
     // Whether page 2 keeps its rule.
     fn fits(&self, limits: &Limits) -> bool
         ensures { result ≡ purse_fits limits.now self.now }
     {
-        if self.total > limits.limit {
-            return false;
-        }
-        if self.next > 9 {
-            return false;
-        }
-        if self.held > 10 {
-            return false;
-        }
-        if self.held < 10 && self.next != self.held {
-            return false;
-        }
-        self.last.fits(self.held)
+        self.total <= limits.limit
+            && self.next <= 9
+            && self.held <= 10
+            && (self.held >= 10 || self.next == self.held)
+            && self.last_fits()
+    }
+
+    // Whether an amount is one that page 2 allows the newest record: that of a ride is at most the total.
+    fn fits_amount(&self, amount: u32) -> bool
+        ensures { result ≡ amount_fits self.now.last amount self.now.total }
+    {
+        self.last != Some(Kind::Ride) || amount <= self.total
     }
 
     // Whether the newest record is one that page 2 allows.
     fn fits_newest(&self, newest: &Record) -> bool
         ensures { result ≡ newest_fits self.now newest.now }
     {
-        if !self.last.fits_kind(newest.kind) {
-            return false;
-        }
-        if newest.total != self.total {
-            return false;
-        }
-        if newest.nt > self.nt {
-            return false;
-        }
-        self.last.fits_amount(newest.amount, self.total)
+        self.last == Some(newest.kind)
+            && newest.total == self.total
+            && newest.nt <= self.nt
+            && self.fits_amount(newest.amount)
     }
 }
 
@@ -124,16 +60,10 @@ impl FirstPages {
     ) -> Option<FirstPages>
         ensures { result ≡ first_pages_of zero one two eleven }
     {
-        let header = Header::decode(zero)?;
-        let limits = Limits::decode(one)?;
-        let purse = Purse::decode(two)?;
-        if !all_zero(&eleven) {
-            return None;
-        }
-        if !purse.fits(&limits) {
-            return None;
-        }
-        Some(FirstPages {
+        let header = Header::decode(&zero)?;
+        let limits = Limits::decode(&one)?;
+        let purse = Purse::decode(&two)?;
+        (all_zero(&eleven) && purse.fits(&limits)).then_some(FirstPages {
             header,
             limits,
             purse,
@@ -152,38 +82,33 @@ impl FirstPages {
     }
 
     // The card with its newest record, where one is held.
-    fn with_newest<M: Memory>(&self, memory: &M) -> Option<CardView>
-        requires { 32 ≤ length (M.pages memory.now) }
-        ensures { result ≡ with_newest (newest_slot self.now.purse) self.now (M.pages memory.now) }
+    fn with_newest<M: Memory>(&self, pages: &CardPages<M>) -> Option<CardView>
+        ensures { result ≡ with_newest (newest_slot self.now.purse) self.now (M.pages pages.now.memory.now) }
     {
-        match self.purse.newest_slot() {
-            None => Some(self.with(None)),
-            Some(slot) => {
-                let newest = Record::decode(slot_at(memory, slot))?;
-                if !self.purse.fits_newest(&newest) {
-                    return None;
-                }
-                Some(self.with(Some(newest)))
-            }
-        }
+        let Some(slot) = self.purse.newest_slot() else {
+            return Some(self.with(None));
+        };
+        let newest = Record::decode(&pages.slot(slot))?;
+        self.purse
+            .fits_newest(&newest)
+            .then_some(self.with(Some(newest)))
     }
 }
 
 impl CardView {
     // The card that the pages of a memory are.
+    // Form: apart from read_card, since in one function the goal `returns-clause-rule` did not close.
     fn decode<M: Memory>(memory: &M) -> Option<CardView>
         ensures { result ≡ card_of (M.pages memory.now) }
     {
-        if memory.count() < 32 {
-            return None;
-        }
+        let pages = CardPages::of(memory)?;
         let first = FirstPages::decode(
-            page_at(memory, 0),
-            page_at(memory, 1),
-            page_at(memory, 2),
-            page_at(memory, 11),
+            pages.page(0),
+            pages.page(1),
+            pages.page(2),
+            pages.page(11),
         )?;
-        first.with_newest(memory)
+        first.with_newest(&pages)
     }
 }
 

@@ -1,18 +1,20 @@
 ghost use Rattle.std.specs.Prelude.{◌≡◌};
-ghost use Rattle.card.specs.Codec.{RoundTrip};
+ghost use Rattle.card.specs.Codec.{Decoded};
 ghost use Rattle.card.specs.Record.{kind_byte, kind_of, record_bytes, record_of};
 
-use crate::bytes::word_at;
+use crate::bytes::{part_at, word_at};
+use crate::code::UnknownCode;
+use crate::codec::Codec;
 
 // What a record of the log tells of. A repeat has no record.
-#[derive(Clone, Copy)]
+#[derive(Clone, Copy, PartialEq, Eq, Debug)]
 pub enum Kind {
     Ride,
     Cancel,
 }
 
 // A record of the log.
-#[derive(Clone, Copy)]
+#[derive(Clone, Copy, PartialEq, Eq, Debug)]
 pub struct Record {
     pub kind: Kind,
     // NT, the transaction number
@@ -28,52 +30,52 @@ pub struct Record {
     pub total: u32,
 }
 
-impl Kind {
-    fn from_byte(byte: u8) -> Option<Kind>
-        ensures { result ≡ kind_of byte }
-    {
+impl TryFrom<u8> for Kind {
+    type Error = UnknownCode;
+
+    ghost try_from_gives = { λ byte r. Decoded (kind_of byte) byte r };
+
+    fn try_from(byte: u8) -> Result<Kind, UnknownCode> {
         match byte {
-            0x20 => Some(Kind::Ride),
-            0x22 => Some(Kind::Cancel),
-            _ => None,
+            0x20 => Ok(Kind::Ride),
+            0x22 => Ok(Kind::Cancel),
+            _ => Err(UnknownCode(byte)),
         }
     }
+}
 
-    fn byte(self) -> u8
-        ensures { result ≡ kind_byte self }
-    {
-        match self {
+impl From<Kind> for u8 {
+    ghost from_gives = { λ kind byte. byte ≡ kind_byte kind };
+
+    fn from(kind: Kind) -> u8 {
+        match kind {
             Kind::Ride => 0x20,
             Kind::Cancel => 0x22,
         }
     }
 }
 
-impl Record {
+impl Codec<32> for Record {
+    ghost writes = { record_bytes };
+
+    ghost reads = { record_of };
+
     // None where the first byte is no kind.
-    pub fn decode(bytes: [u8; 32]) -> Option<Record>
-        ensures { result ≡ record_of bytes }
-    {
-        let kind = Kind::from_byte(bytes[0])?;
-        let mut idsam = [0; 8];
-        idsam.copy_from_slice(&bytes[9..17]);
-        let mut time = [0; 7];
-        time.copy_from_slice(&bytes[21..28]);
+    fn decode(bytes: &[u8; 32]) -> Option<Record> {
+        let kind = Kind::try_from(bytes[0]).ok()?;
         Some(Record {
             kind,
-            nt: word_at(&bytes, 1),
-            amount: word_at(&bytes, 5),
-            idsam,
-            ntsam: word_at(&bytes, 17),
-            time,
-            total: word_at(&bytes, 28),
+            nt: word_at(bytes, 1),
+            amount: word_at(bytes, 5),
+            idsam: part_at(bytes, 9),
+            ntsam: word_at(bytes, 17),
+            time: part_at(bytes, 21),
+            total: word_at(bytes, 28),
         })
     }
 
-    // The 32 bytes, written from the last field to the first.
-    fn to_bytes(self) -> [u8; 32]
-        ensures { result ≡ record_bytes self }
-    {
+    // Written from the last field to the first.
+    fn encode(self) -> [u8; 32] {
         let mut bytes = [0; 32];
         bytes[28..32].copy_from_slice(&self.total.to_be_bytes());
         bytes[21..28].copy_from_slice(&self.time);
@@ -81,14 +83,7 @@ impl Record {
         bytes[9..17].copy_from_slice(&self.idsam);
         bytes[5..9].copy_from_slice(&self.amount.to_be_bytes());
         bytes[1..5].copy_from_slice(&self.nt.to_be_bytes());
-        bytes[0] = self.kind.byte();
+        bytes[0] = u8::from(self.kind);
         bytes
-    }
-
-    pub fn encode(self) -> [u8; 32]
-        ensures bytes { result ≡ record_bytes self }
-        ensures back { RoundTrip 32 record_bytes record_of self }
-    {
-        self.to_bytes()
     }
 }

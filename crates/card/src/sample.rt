@@ -2,11 +2,13 @@ ghost use Rattle.std.specs.Prelude.{◌≡◌};
 ghost use Rattle.card.specs.Issue.{Issuable};
 ghost use Rattle.card.specs.Sample.{sample_source};
 
-// The bytes of the sample card's issue record: in use and free, ALG 00, VK 01, IDCENTER 01, IDEP 10 10 00 00 00 00 00 01, ride ceiling 3,000,
-// total limit 500,000, every key byte 01, all else 00. A line for each of pages 0 to 11.
+// The issue record of the sample card, which issue takes: in use and free, ALG 00, VK 01, IDCENTER 01, IDEP 10 10 00 00 00 00 00 01, ride
+// ceiling 3,000, total limit 500,000, every key byte 01, all else 00. A line for each of pages 0 to 11.
 #[rattlefmt::skip]
-fn sample_bytes() -> [u8; 192]
-    ensures { result ≡ sample_source }
+#[tactic(auto, using(crate::proofs::Issues::sample_issuable))]
+pub fn sample_record() -> [u8; 192]
+    ensures bytes { result ≡ sample_source }
+    ensures issuable { Issuable sample_source }
 {
     [
         0x07, 0x00, 0x00, 0x01, 0x01, 0x00, 0x00, 0x00, 0x10, 0x10, 0x00, 0x00, 0x00, 0x00, 0x00, 0x01,
@@ -22,12 +24,4 @@ fn sample_bytes() -> [u8; 192]
         0x01, 0x01, 0x01, 0x01, 0x01, 0x01, 0x01, 0x01, 0x01, 0x01, 0x01, 0x01, 0x01, 0x01, 0x01, 0x01,
         0x00, 0x00, 0x00, 0x00, 0x00, 0x00, 0x00, 0x00, 0x00, 0x00, 0x00, 0x00, 0x00, 0x00, 0x00, 0x00,
     ]
-}
-
-// The issue record of the sample card, which issue takes.
-pub fn sample_record() -> [u8; 192]
-    ensures bytes { result ≡ sample_source }
-    ensures issuable { Issuable sample_source }
-{
-    sample_bytes()
 }

@@ -2,14 +2,15 @@ ghost use Rattle.std.specs.Prelude.{◌≡◌};
 ghost use Rattle.card.specs.Calls.{at_rest};
 
 // Whether the card's application has been selected by SELECT FILE.
-#[derive(Clone, Copy)]
+#[derive(Clone, Copy, PartialEq, Eq, Debug)]
 pub enum Selection {
     Nothing,
     Card,
 }
 
 // What one command leaves for the next. Every command that gets a status word ends it.
-#[derive(Clone, Copy)]
+// Form: its variants hold plain numbers and no arrays, a rule of the project; P1 stays a number too, since an enum would ask more of who hands a state over.
+#[derive(Clone, Copy, PartialEq, Eq, Debug)]
 pub enum Session {
     Quiet,
     // GET CHALLENGE answered these eight bytes, as one number.
@@ -29,7 +30,7 @@ pub enum Session {
 }
 
 // What the engine keeps between calls beside the memory.
-#[derive(Clone, Copy)]
+#[derive(Clone, Copy, PartialEq, Eq, Debug)]
 pub struct State {
     pub selection: Selection,
     pub session: Session,

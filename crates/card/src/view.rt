@@ -4,7 +4,7 @@ use crate::purse::Purse;
 use crate::record::Record;
 
 // What pages 0, 1 and 2 hold.
-#[derive(Clone, Copy)]
+#[derive(Clone, Copy, PartialEq, Eq, Debug)]
 pub struct FirstPages {
     pub header: Header,
     pub limits: Limits,
@@ -12,7 +12,7 @@ pub struct FirstPages {
 }
 
 // What the engine reads of a card: pages 0, 1 and 2, and the newest record where one is held.
-#[derive(Clone, Copy)]
+#[derive(Clone, Copy, PartialEq, Eq, Debug)]
 pub struct CardView {
     pub header: Header,
     pub limits: Limits,

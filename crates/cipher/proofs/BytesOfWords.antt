@@ -1,11 +1,12 @@
 -- Words of 64 bits and their eight bytes: each gives the other back. And XOR undoes itself.
 use Rattle.std.proofs.Common.{◌≡◌, ℕ, ◌+◌, ◌/◌, ◌%◌, ◌^◌, ◌<◌, List, [], ◌∷◌, get_or, ap, ◌∙◌, arith}
 use lib.Bits.{bit_xor, xor_assoc, xor_self, xor_zero_r}
+use Rattle.std.proofs.lemmas.Nat.{from_be_bytes-to_be_bytes_8}
 use Rattle.cipher.specs.Words.{word_of, word_at, bytes_of}
 
 pub word_of_bytes : (x : ℕ) → x < 2 ^ 64 → word_of (bytes_of x) ≡ x
 unfolding word_of bytes_of
-word_of_bytes x h = omega arith
+word_of_bytes x h = from_be_bytes-to_be_bytes_8 x h
 
 same : (a b c d e f g h a' b' c' d' e' f' g' h' : ℕ) → a ≡ a' → b ≡ b' → c ≡ c' → d ≡ d' → e ≡ e' → f ≡ f' → g ≡ g' → h ≡ h'
     → ◌≡◌ {A = List ℕ} (a ∷ b ∷ c ∷ d ∷ e ∷ f ∷ g ∷ h ∷ []) (a' ∷ b' ∷ c' ∷ d' ∷ e' ∷ f' ∷ g' ∷ h' ∷ [])

@@ -1,3 +1,2 @@
 pub mod Cipher
 pub mod Words
-pub mod Tables

@@ -8,18 +8,14 @@ pub trait Cipher {
     // the block size in bytes
     const BLOCK: usize;
 
-    // the block size as clauses speak of it: a clause cannot name an associated constant
-    ghost size: { ℕ };
+    // the block size as clauses name it
+    ghost BLOCK: { ℕ };
     // what a block becomes under a key
     ghost enciphered: { List ℕ → List ℕ → List ℕ };
-
-    // The block size. Each cipher writes `Self::BLOCK` here; this is what ties the constant to the size, and no clause asks for it.
-    fn block_size() -> usize
-        ensures { result ≡ size };
 
     // The block under the key.
     fn encipher(key: [u8; 16], block: [u8; 16]) -> [u8; 16]
         ensures { result ≡ enciphered key block };
 
-    ghost sized: { BlockSize size };
+    ghost sized: { BlockSize BLOCK };
 }

@@ -5,4 +5,4 @@ mod cipher;
 mod words;
 
 pub use cipher::Cipher;
-pub use words::{block_of, first_word, second_word};
+pub use words::{block_of, words_of};

@@ -1,7 +1,7 @@
 // A sealer of a host's own: under one algorithm byte it gives the same four bytes for every key and message.
 ghost use Rattle.std.specs.Prelude.{◌==◌};
 
-use seal::Sealer;
+use seal::{Sealer, WorkpadMessage};
 
 #[derive(Drop)]
 pub(crate) struct Constant {
@@ -20,8 +20,7 @@ impl Sealer for Constant {
         &self,
         algorithm: u8,
         _key: [u8; 16],
-        _workpad: &mut [u8],
-        _len: usize,
+        _message: &mut WorkpadMessage<'_>,
     ) -> Option<[u8; 4]> {
         if algorithm == self.algorithm {
             Some(self.seal)

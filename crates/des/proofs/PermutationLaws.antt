@@ -1,5 +1,6 @@
 -- The laws of the permutations' tables: computed, but for IP and its inverse, which go through one table after the other.
-use Rattle.std.proofs.Common.{◌-◌, ◌%◌, cond, eqb, take, refl, ◌∙◌, arith, eqb→eq}
+use Rattle.std.proofs.Common.{◌-◌, ◌%◌, cond, eqb, take, refl, ◌∙◌, arith}
+use Rattle.std.proofs.lemmas.Bool.{eqb-true}
 use Rattle.des.specs.Permutations.{ip_table, ip_inverse_table, p_table, pc_1_table, pc_2_table}
 use Rattle.des.specs.PermutationLaws.{occurrences, pc_2_omits, IpByRule, IpUndone, IpInverseUndone, EByRule, PNamesEachOnce, Pc1ByRule, Pc1NamesNoParityBit, Pc2NamesEachOnce, Pc2KeepsHalves, PermutationLaws}
 use Rattle.des.proofs.Tests.{every_at}
@@ -18,7 +19,7 @@ pub e_by_rule : EByRule
 e_by_rule = refl
 
 pub p_names_each_once : PNamesEachOnce
-p_names_each_once = (refl, λ v h k. eqb→eq (occurrences v p_table) 1 (every_at 1 32 (λ v. eqb (occurrences v p_table) 1) tt v h (omega arith)))
+p_names_each_once = (refl, λ v h k. eqb-true (occurrences v p_table) 1 (every_at 1 32 (λ v. eqb (occurrences v p_table) 1) refl v h (omega arith)))
 
 pub pc_1_by_rule : Pc1ByRule
 pc_1_by_rule = refl
@@ -26,18 +27,18 @@ pc_1_by_rule = refl
 pub pc_1_names_no_parity_bit : Pc1NamesNoParityBit
 pc_1_names_no_parity_bit = (
   refl,
-  λ v h k. eqb→eq (occurrences v pc_1_table) (cond (eqb (v % 8) 0) 0 1) (every_at 1 64 (λ v. eqb (occurrences v pc_1_table) (cond (eqb (v % 8) 0) 0 1)) tt v h (omega arith)),
+  λ v h k. eqb-true (occurrences v pc_1_table) (cond (eqb (v % 8) 0) 0 1) (every_at 1 64 (λ v. eqb (occurrences v pc_1_table) (cond (eqb (v % 8) 0) 0 1)) refl v h (omega arith)),
 )
 
 pub pc_2_names_each_once : Pc2NamesEachOnce
 pc_2_names_each_once = (
   refl,
-  λ v h k. eqb→eq (occurrences v pc_2_table) (1 - occurrences v pc_2_omits) (every_at 1 56 (λ v. eqb (occurrences v pc_2_table) (1 - occurrences v pc_2_omits)) tt v h (omega arith)),
+  λ v h k. eqb-true (occurrences v pc_2_table) (1 - occurrences v pc_2_omits) (every_at 1 56 (λ v. eqb (occurrences v pc_2_table) (1 - occurrences v pc_2_omits)) refl v h (omega arith)),
 )
 
 pub pc_2_keeps_halves : Pc2KeepsHalves
 pc_2_keeps_halves v h k =
-    eqb→eq (occurrences v (take 24 pc_2_table)) (occurrences v pc_2_table) (every_at 1 28 (λ v. eqb (occurrences v (take 24 pc_2_table)) (occurrences v pc_2_table)) tt v h (omega arith))
+    eqb-true (occurrences v (take 24 pc_2_table)) (occurrences v pc_2_table) (every_at 1 28 (λ v. eqb (occurrences v (take 24 pc_2_table)) (occurrences v pc_2_table)) refl v h (omega arith))
 
 pub permutation_laws : PermutationLaws
 permutation_laws = record {

@@ -1,7 +1,7 @@
 -- What the selection functions select has four bits each.
-use Rattle.std.proofs.Common.{◌≡◌, ℕ, zero, suc, ◌+◌, ◌-◌, ◌*◌, ◌^◌, ◌<◌, ◌≤◌, Bool, true, ◌&&◌, T, ltb, List, [], ◌∷◌, get_or, ap, ◌∙◌, arith, ltb→lt, pow_mono, pow-add}
+use Rattle.std.proofs.Common.{◌≡◌, ℕ, zero, suc, ◌+◌, ◌-◌, ◌*◌, ◌^◌, ◌<◌, ◌≤◌, Bool, true, ◌&&◌, T, ltb, List, [], ◌∷◌, get_or, sym, ap, ◌∙◌, ap₂, add-one, arith, ltb→lt, pow_mono, pow-add}
 use Rattle.cipher.proofs.Tables.{both_left, both_right}
-use Rattle.des.specs.Boxes.{s1, s2, s3, s4, s5, s6, s7, s8, s_box, row, column}
+use Rattle.des.specs.Boxes.{s_tables, s_box, entry, row, column}
 use Rattle.des.specs.Function.{six_bits, selected}
 
 -- every entry of a table is below m
@@ -24,7 +24,7 @@ all_below_at m (t ∷ ts) zero i pos h = below_at m t i pos (both_left (below m 
 all_below_at m (t ∷ ts) (suc k) i pos h = all_below_at m ts k i pos (both_right (below m t) (all_below m ts) h)
 
 s_box_lt : (i b : ℕ) → s_box i b < 16
-s_box_lt i b = all_below_at 16 (s1 ∷ s2 ∷ s3 ∷ s4 ∷ s5 ∷ s6 ∷ s7 ∷ s8 ∷ []) (i - 1) (row b * 16 + column b) (omega arith) tt
+s_box_lt i b = all_below_at 16 s_tables (i - 1) (row b * 16 + column b) (omega arith) tt
 
 selected_below : (x n : ℕ) → selected x n < 2 ^ (4 * n)
 selected_below x zero = omega arith
@@ -34,20 +34,17 @@ selected_below x (suc n) =
     let h = selected_below x n in
     omega arith
 
--- before the last selection
-pub selected_lt : (x n : ℕ) → n < 8 → selected x n < 2 ^ 28
+pub selected_lt : (x n : ℕ) → n ≤ 8 → selected x n < 2 ^ 32
 selected_lt x n h =
-    let p : 2 ^ (4 * n) ≤ 2 ^ 28 = pow_mono {j = 28} (omega arith) in
+    let p : 2 ^ (4 * n) ≤ 2 ^ 32 = pow_mono {j = 32} (omega arith) in
     omega (arith, selected_below x n)
 
 -- one selection more
-pub selected_more : (x i : ℕ) → 1 ≤ i → selected x (i - 1) * 16 + s_box i (six_bits x i) ≡ selected x (i + 1 - 1)
-selected_more x zero h = omega arith
-selected_more x (suc n) h =
-    let before : suc n - 1 ≡ n = omega arith in
-    let after : suc n ≡ suc n + 1 - 1 = omega arith in
-    ap (λ m. selected x m * 16 + s_box (suc n) (six_bits x (suc n))) before ∙ ap (selected x) after
-
--- and it fits
-pub selection_fits : (x i out s b : ℕ) → 1 ≤ i → i ≤ 8 → out ≡ selected x (i - 1) → s ≡ s_box i b → out * 16 + s < 2 ^ 32
-selection_fits x i out s b h k p q = omega (arith, selected_lt x (i - 1) (omega arith), s_box_lt i b)
+pub selected_more : (x i out s b : ℕ) (ts : List (List ℕ)) → out ≡ selected x i → s ≡ entry (get_or ts i []) b → ts ≡ s_tables → b ≡ six_bits x (i + 1)
+    → out * 16 + s ≡ selected x (i + 1)
+selected_more x i out s b ts p q t r =
+    let e : i ≡ suc i - 1 = omega arith in
+    let box : s ≡ s_box (suc i) (six_bits x (suc i)) =
+    q ∙ ap₂ (λ (u : List (List ℕ)) (c : ℕ). entry (get_or u i []) c) t (r ∙ ap (six_bits x) (add-one i))
+    ∙ ap (λ (m : ℕ). entry (get_or s_tables m []) (six_bits x (suc i))) e in
+    ap₂ (λ (o y : ℕ). o * 16 + y) p box ∙ ap (selected x) (sym (add-one i))

@@ -1,5 +1,5 @@
 -- The halves C and D of the key: they have 28 bits at every iteration, shift as the code shifts them, and come round.
-use Rattle.std.proofs.Common.{◌≡◌, ℕ, zero, suc, ◌+◌, ◌-◌, ◌*◌, ◌/◌, ◌%◌, ◌^◌, ◌<◌, ◌≤◌, leb, List, [], ◌∷◌, ◌++◌, length, get_or, sym, refl, ap, ◌∙◌, le_of_suc-le-suc, not-suc-le-zero, mod-eq_of_lt, div-one, arith, leb→le}
+use Rattle.std.proofs.Common.{◌≡◌, ℕ, zero, suc, ◌+◌, ◌-◌, ◌*◌, ◌/◌, ◌%◌, ◌^◌, ◌<◌, ◌≤◌, List, [], ◌∷◌, ◌++◌, length, get_or, sym, refl, ap, ◌∙◌, ap₂, le_of_suc-le-suc, not-suc-le-zero, mod-eq_of_lt, div-one, arith}
 use lib.Bits.{bit_or, or_shifted}
 use Rattle.std.specs.List.{range_with_len}
 use Rattle.std.proofs.lemmas.Nat.{mod_below, shr_below, shr-shr, shr_high, mod_low, mod-pow-add, div-add-mod'}
@@ -8,7 +8,6 @@ use Rattle.des.specs.Keys.{shifts, left_shift, left_shifts, after_shifts, c_half
 use Rattle.des.specs.KeyLaws.{HalvesAsBefore, KeyLaws}
 use Rattle.des.proofs.Permuted.{permuted_lt}
 use Rattle.des.proofs.Composed.{after, twice_at, run, straight}
-use Rattle.des.proofs.Tests.{every_at}
 
 left_shifts_lt : (s c : ℕ) → c < 2 ^ 28 → left_shifts s c < 2 ^ 28
 left_shifts_lt zero c h = h
@@ -24,13 +23,15 @@ c_half_lt key n = after_shifts_lt (pc_1 key / 2 ^ 28) n (shr_below (pc_1 key) 28
 pub d_half_lt : (key n : ℕ) → d_half key n < 2 ^ 28
 d_half_lt key n = after_shifts_lt (pc_1 key % 2 ^ 28) n (mod_below (pc_1 key) (2 ^ 28) (omega arith))
 
--- C or D at the next iteration
-pub shifted_more : (start n c r : ℕ) → c ≡ after_shifts start n → r ≡ left_shifts (get_or shifts n 0) c → r ≡ after_shifts start (suc n)
-shifted_more start n c r p q = q ∙ ap (left_shifts (get_or shifts n 0)) p
+-- C or D at the next iteration, by a table of the shifts
+pub shifted_more : (start n c r : ℕ) (t : List ℕ) → t ≡ shifts → c ≡ after_shifts start n → r ≡ left_shifts (get_or t n 0) c → r ≡ after_shifts start (suc n)
+shifted_more start n c r t e p q = q ∙ ap₂ (λ (u : List ℕ) (h : ℕ). left_shifts (get_or u n 0) h) e p
 
--- C and D fit 56 bits
-pub joined_lt : (key n c d : ℕ) → c ≡ c_half key n → d ≡ d_half key n → c * 2 ^ 28 + d < 2 ^ 56
-joined_lt key n c d p q = omega (arith, c_half_lt key n, d_half_lt key n)
+-- C and D at the next iteration fit 56 bits
+pub next_fit : (key n c d x y : ℕ) (t : List ℕ) → x ≡ left_shifts (get_or t n 0) c → y ≡ left_shifts (get_or t n 0) d → t ≡ shifts → c ≡ c_half key n → d ≡ d_half key n
+    → x * 2 ^ 28 + y < 2 ^ 56
+next_fit key n c d x y t e h s p q =
+    omega (arith, c_half_lt key (suc n), d_half_lt key (suc n), shifted_more (pc_1 key / 2 ^ 28) n c x t s p e, shifted_more (pc_1 key % 2 ^ 28) n d y t s q h)
 
 -- a left shift as a number
 left_shift_is : (c : ℕ) → c < 2 ^ 28 → left_shift c ≡ c % 2 ^ 27 * 2 + c / 2 ^ 27
@@ -59,13 +60,6 @@ shifted_is (suc (suc zero)) c h k l =
     let e : c * 2 ^ 2 % 2 ^ 64 % 2 ^ 28 ≡ c % 2 ^ 26 * 2 ^ 2 = omega arith in
     ap (λ y. bit_or y (c / 2 ^ 26)) e ∙ or_shifted (c % 2 ^ 26) 2 (c / 2 ^ 26) (omega arith) ∙ sym (left_shift_two c l)
 shifted_is (suc (suc (suc s))) c h k l = absurd (not-suc-le-zero (le_of_suc-le-suc (le_of_suc-le-suc k)))
-
--- each iteration makes one or two
-pub one_or_two : (n : ℕ) → n < 16 → (1 ≤ get_or shifts n 0) × (get_or shifts n 0 ≤ 2)
-one_or_two n h = (
-  leb→le 1 (get_or shifts n 0) (every_at 0 16 (λ n. leb 1 (get_or shifts n 0)) tt n (omega arith) (omega arith)),
-  leb→le (get_or shifts n 0) 2 (every_at 0 16 (λ n. leb (get_or shifts n 0) 2) tt n (omega arith) (omega arith)),
-)
 
 -- the table of n left shifts
 abbrev turned : ℕ → List ℕ

@@ -1,19 +1,14 @@
 -- What a test that is computed for each number of a range says of each.
-use Rattle.std.proofs.Common.{◌≡◌, ℕ, zero, suc, ◌+◌, ◌-◌, ◌<◌, ◌≤◌, Bool, true, ◌&&◌, T, sym, ◌∙◌, subst, le_of_suc-le-suc, not-suc-le-zero, add-zero, add-suc, suc-add, arith}
-use Rattle.cipher.proofs.Tables.{both_left, both_right}
+use Rattle.std.proofs.Common.{◌≡◌, ℕ, ◌+◌, ◌-◌, ◌<◌, ◌≤◌, Bool, true, get_or, ◌∙◌, subst, arith}
+use Rattle.std.specs.List.{range_with_len, list_all}
+use Rattle.std.proofs.lemmas.List.FromFn.{length-range_with_len, get_or-range_with_len}
+use Rattle.std.proofs.lemmas.List.Sums.{AllPass-from_list_all}
 
 -- the test passes at a and the n - 1 numbers after it
 abbrev pub every : ℕ → ℕ → (ℕ → Bool) → Bool
-every a zero test = true
-every a (suc n) test = ◌&&◌ (test a) (every (suc a) n test)
+every a n test = list_all test (range_with_len a n)
 
-every_from : (a n : ℕ) (test : ℕ → Bool) → T (every a n test) → (k : ℕ) → k < n → T (test (a + k))
-every_from a zero test t k h = absurd (not-suc-le-zero h)
-every_from a (suc n) test t zero h = rw add-zero (both_left (test a) (every (suc a) n test) t)
-every_from a (suc n) test t (suc k) h =
-    subst (λ (m : ℕ). T (test m)) (suc-add a k ∙ sym (add-suc a k)) (every_from (suc a) n test (both_right (test a) (every (suc a) n test) t) k (le_of_suc-le-suc h))
-
-pub every_at : (a n : ℕ) (test : ℕ → Bool) → T (every a n test) → (k : ℕ) → a ≤ k → k < a + n → T (test k)
+pub every_at : (a n : ℕ) (test : ℕ → Bool) → every a n test ≡ true → (k : ℕ) → a ≤ k → k < a + n → test k ≡ true
 every_at a n test t k h l =
-    let e : a + (k - a) ≡ k = omega arith in
-    subst (λ (m : ℕ). T (test m)) e (every_from a n test t (k - a) (omega arith))
+    let e : get_or (range_with_len a n) (k - a) 0 ≡ k = get_or-range_with_len a n (k - a) 0 (omega arith) ∙ omega arith in
+    subst (λ (m : ℕ). test m ≡ true) e (AllPass-from_list_all test (range_with_len a n) t (k - a) 0 (omega (arith, length-range_with_len a n)))

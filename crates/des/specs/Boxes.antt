@@ -65,9 +65,13 @@ s8 =
     7 ∷ 11 ∷ 4 ∷ 1 ∷ 9 ∷ 12 ∷ 14 ∷ 2 ∷ 0 ∷ 6 ∷ 10 ∷ 13 ∷ 15 ∷ 3 ∷ 5 ∷ 8 ∷
     2 ∷ 1 ∷ 14 ∷ 7 ∷ 4 ∷ 10 ∷ 8 ∷ 13 ∷ 15 ∷ 12 ∷ 9 ∷ 0 ∷ 3 ∷ 5 ∷ 6 ∷ 11 ∷ []
 
+-- the tables of S1 to S8
+abbrev pub s_tables : List (List ℕ)
+s_tables = s1 ∷ s2 ∷ s3 ∷ s4 ∷ s5 ∷ s6 ∷ s7 ∷ s8 ∷ []
+
 -- the table of S i, for i from 1 to 8
 abbrev pub s_table : ℕ → List ℕ
-s_table i = slice_index_or (s1 ∷ s2 ∷ s3 ∷ s4 ∷ s5 ∷ s6 ∷ s7 ∷ s8 ∷ []) (i - 1) []
+s_table i = slice_index_or s_tables (i - 1) []
 
 -- the row that six bits choose, by the first and the last of them
 abbrev pub row : ℕ → ℕ
@@ -77,6 +81,10 @@ row b = b / 32 * 2 + b % 2
 abbrev pub column : ℕ → ℕ
 column b = b / 2 % 16
 
+-- the entry of a table in the row and the column that six bits choose
+abbrev pub entry : List ℕ → ℕ → ℕ
+entry t b = slice_index t (row b * 16 + column b)
+
 -- S i of the six bits b
 abbrev pub s_box : ℕ → ℕ → ℕ
-s_box i b = slice_index (s_table i) (row b * 16 + column b)
+s_box i b = entry (s_table i) b

@@ -4,9 +4,10 @@ ghost use Rattle.des.specs.Des.{preoutput, des, des_enciphered, des_deciphered};
 
 use crate::function::cipher_function;
 use crate::keys::key_schedule;
-use crate::permutations::{initial_permutation, inverse_initial_permutation};
+use crate::tables::{IP, IP_INVERSE};
 
 // A round with each key, then the preoutput: the right half before the left.
+#[tactic(auto, using(crate::proofs::Halves::after_words), unfolding(crate::specs::Des::preoutput))]
 fn preoutput(keys: &[u64], x: u64) -> u64
     ensures { result ≡ preoutput keys.now x }
 {
@@ -24,7 +25,7 @@ fn preoutput(keys: &[u64], x: u64) -> u64
 fn des_with(keys: &[u64], x: u64) -> u64
     ensures { result ≡ des keys.now x }
 {
-    inverse_initial_permutation(preoutput(keys, initial_permutation(x)))
+    IP_INVERSE.apply(preoutput(keys, IP.apply(x)))
 }
 
 // Enciphers one block.

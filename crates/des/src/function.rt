@@ -1,39 +1,36 @@
 // The cipher function f.
-ghost use Rattle.std.specs.Prelude.{◌≡◌, ◌<◌, ◌≤◌};
-ghost use Rattle.des.specs.Boxes.{s_box};
+ghost use Rattle.std.specs.Prelude.{◌≡◌, ◌+◌, ◌<◌};
+ghost use Rattle.des.specs.Boxes.{entry};
 ghost use Rattle.des.specs.Function.{six_bits, selected, f};
 
-use crate::permutations::{expansion, permutation};
-use crate::tables::S;
+use crate::tables::{E, P, s_tables};
 
-// S i of the six bits `b`.
-fn selection(i: usize, b: usize) -> u64
-    requires first { 1 ≤ i }
-    requires last { i ≤ 8 }
-    requires bits { b < 64 }
-    ensures { result ≡ s_box i b }
+// The entry of a table that the six bits `b` choose.
+fn entry(table: &[u8; 64], b: usize) -> u64
+    requires { b < 64 }
+    ensures { result ≡ entry table.now b }
 {
     let row = b / 32 * 2 + b % 2;
     let column = b / 2 % 16;
-    S[i - 1][row * 16 + column] as u64
+    table[row * 16 + column] as u64
 }
 
-// The block B i of six bits out of 48.
+// Of 48 bits, the block of six bits after the first `i` blocks.
 fn six_bits(x: u64, i: usize) -> usize
-    requires first { 1 ≤ i }
-    requires last { i ≤ 8 }
-    ensures { result ≡ six_bits x i }
+    requires { i < 8 }
+    ensures { result ≡ six_bits x (i + 1) }
 {
-    ((x >> (48 - 6 * i)) % 64) as usize
+    ((x >> (42 - 6 * i)) % 64) as usize
 }
 
 // S1(B1) S2(B2) .. S8(B8): 32 bits.
+#[tactic(auto, using(crate::proofs::Selected::selected_lt))]
 fn selections(x: u64) -> u64
     ensures { result ≡ selected x 8 }
 {
     let mut out = 0u64;
-    for i in 1..=8usize {
-        out = out * 16 + selection(i, six_bits(x, i));
+    for (i, table) in s_tables().iter().enumerate() {
+        out = out * 16 + entry(table, six_bits(x, i));
     }
     out
 }
@@ -42,5 +39,5 @@ fn selections(x: u64) -> u64
 pub(crate) fn cipher_function(r: u64, k: u64) -> u64
     ensures { result ≡ f r k }
 {
-    permutation(selections(k ^ expansion(r)))
+    P.apply(selections(k ^ E.apply(r)))
 }

@@ -1,93 +1,122 @@
 // The tables of FIPS 46-3, in its own rows.
+ghost use Rattle.std.specs.Prelude.{◌≡◌};
+ghost use Rattle.des.specs.Boxes.{s_tables};
+ghost use Rattle.des.specs.Keys.{shifts};
 
-// The table of the initial permutation IP.
-#[rattlefmt::skip]
-pub(crate) const IP: [u8; 64] = [
-    58, 50, 42, 34, 26, 18, 10,  2,
-    60, 52, 44, 36, 28, 20, 12,  4,
-    62, 54, 46, 38, 30, 22, 14,  6,
-    64, 56, 48, 40, 32, 24, 16,  8,
-    57, 49, 41, 33, 25, 17,  9,  1,
-    59, 51, 43, 35, 27, 19, 11,  3,
-    61, 53, 45, 37, 29, 21, 13,  5,
-    63, 55, 47, 39, 31, 23, 15,  7,
-];
+use crate::permutations::Permutation;
 
-// The table of the inverse initial permutation.
+// The initial permutation IP.
 #[rattlefmt::skip]
-pub(crate) const IP_INVERSE: [u8; 64] = [
-    40,  8, 48, 16, 56, 24, 64, 32,
-    39,  7, 47, 15, 55, 23, 63, 31,
-    38,  6, 46, 14, 54, 22, 62, 30,
-    37,  5, 45, 13, 53, 21, 61, 29,
-    36,  4, 44, 12, 52, 20, 60, 28,
-    35,  3, 43, 11, 51, 19, 59, 27,
-    34,  2, 42, 10, 50, 18, 58, 26,
-    33,  1, 41,  9, 49, 17, 57, 25,
-];
+pub(crate) const IP: Permutation = Permutation {
+    width: 64,
+    table: &[
+        58, 50, 42, 34, 26, 18, 10,  2,
+        60, 52, 44, 36, 28, 20, 12,  4,
+        62, 54, 46, 38, 30, 22, 14,  6,
+        64, 56, 48, 40, 32, 24, 16,  8,
+        57, 49, 41, 33, 25, 17,  9,  1,
+        59, 51, 43, 35, 27, 19, 11,  3,
+        61, 53, 45, 37, 29, 21, 13,  5,
+        63, 55, 47, 39, 31, 23, 15,  7,
+    ],
+};
 
-// The E bit-selection table.
+// The inverse initial permutation.
 #[rattlefmt::skip]
-pub(crate) const E: [u8; 48] = [
-    32,  1,  2,  3,  4,  5,
-     4,  5,  6,  7,  8,  9,
-     8,  9, 10, 11, 12, 13,
-    12, 13, 14, 15, 16, 17,
-    16, 17, 18, 19, 20, 21,
-    20, 21, 22, 23, 24, 25,
-    24, 25, 26, 27, 28, 29,
-    28, 29, 30, 31, 32,  1,
-];
+pub(crate) const IP_INVERSE: Permutation = Permutation {
+    width: 64,
+    table: &[
+        40,  8, 48, 16, 56, 24, 64, 32,
+        39,  7, 47, 15, 55, 23, 63, 31,
+        38,  6, 46, 14, 54, 22, 62, 30,
+        37,  5, 45, 13, 53, 21, 61, 29,
+        36,  4, 44, 12, 52, 20, 60, 28,
+        35,  3, 43, 11, 51, 19, 59, 27,
+        34,  2, 42, 10, 50, 18, 58, 26,
+        33,  1, 41,  9, 49, 17, 57, 25,
+    ],
+};
 
-// The table of the permutation P.
+// The bit selection E: of 32 bits, 48.
 #[rattlefmt::skip]
-pub(crate) const P: [u8; 32] = [
-    16,  7, 20, 21,
-    29, 12, 28, 17,
-     1, 15, 23, 26,
-     5, 18, 31, 10,
-     2,  8, 24, 14,
-    32, 27,  3,  9,
-    19, 13, 30,  6,
-    22, 11,  4, 25,
-];
+pub(crate) const E: Permutation = Permutation {
+    width: 32,
+    table: &[
+        32,  1,  2,  3,  4,  5,
+         4,  5,  6,  7,  8,  9,
+         8,  9, 10, 11, 12, 13,
+        12, 13, 14, 15, 16, 17,
+        16, 17, 18, 19, 20, 21,
+        20, 21, 22, 23, 24, 25,
+        24, 25, 26, 27, 28, 29,
+        28, 29, 30, 31, 32,  1,
+    ],
+};
 
-// The table of permuted choice 1: the bits of C, then those of D.
+// The permutation P of 32 bits.
 #[rattlefmt::skip]
-pub(crate) const PC_1: [u8; 56] = [
-    57, 49, 41, 33, 25, 17,  9,
-     1, 58, 50, 42, 34, 26, 18,
-    10,  2, 59, 51, 43, 35, 27,
-    19, 11,  3, 60, 52, 44, 36,
-    63, 55, 47, 39, 31, 23, 15,
-     7, 62, 54, 46, 38, 30, 22,
-    14,  6, 61, 53, 45, 37, 29,
-    21, 13,  5, 28, 20, 12,  4,
-];
+pub(crate) const P: Permutation = Permutation {
+    width: 32,
+    table: &[
+        16,  7, 20, 21,
+        29, 12, 28, 17,
+         1, 15, 23, 26,
+         5, 18, 31, 10,
+         2,  8, 24, 14,
+        32, 27,  3,  9,
+        19, 13, 30,  6,
+        22, 11,  4, 25,
+    ],
+};
 
-// The table of permuted choice 2.
+// Permuted choice 1, of the key: 56 bits, those of C, then those of D.
 #[rattlefmt::skip]
-pub(crate) const PC_2: [u8; 48] = [
-    14, 17, 11, 24,  1,  5,
-     3, 28, 15,  6, 21, 10,
-    23, 19, 12,  4, 26,  8,
-    16,  7, 27, 20, 13,  2,
-    41, 52, 31, 37, 47, 55,
-    30, 40, 51, 45, 33, 48,
-    44, 49, 39, 56, 34, 53,
-    46, 42, 50, 36, 29, 32,
-];
+pub(crate) const PC_1: Permutation = Permutation {
+    width: 64,
+    table: &[
+        57, 49, 41, 33, 25, 17,  9,
+         1, 58, 50, 42, 34, 26, 18,
+        10,  2, 59, 51, 43, 35, 27,
+        19, 11,  3, 60, 52, 44, 36,
+        63, 55, 47, 39, 31, 23, 15,
+         7, 62, 54, 46, 38, 30, 22,
+        14,  6, 61, 53, 45, 37, 29,
+        21, 13,  5, 28, 20, 12,  4,
+    ],
+};
+
+// Permuted choice 2, of C and D: 48 bits.
+#[rattlefmt::skip]
+pub(crate) const PC_2: Permutation = Permutation {
+    width: 56,
+    table: &[
+        14, 17, 11, 24,  1,  5,
+         3, 28, 15,  6, 21, 10,
+        23, 19, 12,  4, 26,  8,
+        16,  7, 27, 20, 13,  2,
+        41, 52, 31, 37, 47, 55,
+        30, 40, 51, 45, 33, 48,
+        44, 49, 39, 56, 34, 53,
+        46, 42, 50, 36, 29, 32,
+    ],
+};
 
 // How many left shifts each iteration of the key schedule makes.
 #[rattlefmt::skip]
-pub(crate) const SHIFTS: [u8; 16] = [
+static SHIFTS: [u8; 16] = [
     1, 1, 2, 2, 2, 2, 2, 2,
     1, 2, 2, 2, 2, 2, 2, 1,
 ];
 
+pub(crate) fn shifts() -> &'static [u8; 16]
+    ensures { result.now ≡ shifts }
+{
+    &SHIFTS
+}
+
 // The selection functions S1 to S8, four rows of 16 columns each.
 #[rattlefmt::skip]
-pub(crate) const S: [[u8; 64]; 8] = [
+static S: [[u8; 64]; 8] = [
     // S1
     [
         14,  4, 13,  1,  2, 15, 11,  8,  3, 10,  6, 12,  5,  9,  0,  7,
@@ -145,3 +174,9 @@ pub(crate) const S: [[u8; 64]; 8] = [
          2,  1, 14,  7,  4, 10,  8, 13, 15, 12,  9,  0,  3,  5,  6, 11,
     ],
 ];
+
+pub(crate) fn s_tables() -> &'static [[u8; 64]; 8]
+    ensures { result.now ≡ s_tables }
+{
+    &S
+}

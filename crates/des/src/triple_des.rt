@@ -1,6 +1,5 @@
 // Triple DES with two keys, on bytes.
-ghost use Rattle.std.specs.Prelude.{◌≡◌, ◌++◌};
-ghost use Rattle.cipher.specs.Words.{word_at, bytes_of};
+ghost use Rattle.std.specs.Prelude.{◌≡◌};
 ghost use Rattle.des.specs.TripleDes.{triple_des_word, triple_des};
 ghost use Rattle.des.specs.PermutationLaws.{PermutationLaws};
 ghost use Rattle.des.specs.BoxLaws.{BoxLaws};
@@ -10,21 +9,13 @@ ghost use Rattle.des.specs.KnownAnswers.{KnownAnswersHold};
 ghost use Rattle.std.proofs.Common.{rules};
 
 use crate::des::{des_decipher, des_encipher};
-use cipher::{Cipher, block_of, first_word, second_word};
+use cipher::{Cipher, block_of, words_of};
 
 // Encipher with the first key, decipher with the second, encipher with the first.
 fn triple_des(k1: u64, k2: u64, x: u64) -> u64
     ensures { result ≡ triple_des_word k1 k2 x }
 {
     des_encipher(k1, des_decipher(k2, des_encipher(k1, x)))
-}
-
-// The first eight bytes of a block under the two halves of the key, then eight bytes 00.
-fn enciphered_block(key: [u8; 16], block: [u8; 16]) -> [u8; 16]
-    ensures { result ≡ bytes_of (triple_des_word (word_at key 0) (word_at key 8) (word_at block 0)) ++ bytes_of 0 }
-{
-    let enciphered = triple_des(first_word(key), second_word(key), first_word(block));
-    block_of(enciphered, 0)
 }
 
 // The cipher Triple DES.
@@ -34,17 +25,14 @@ pub struct TripleDes;
 impl Cipher for TripleDes {
     const BLOCK: usize = 8;
 
-    ghost size = { 8 };
+    ghost BLOCK = { 8 };
 
     ghost enciphered = { triple_des };
 
     ghost sized = { Prim.search rules };
 
-    fn block_size() -> usize {
-        Self::BLOCK
-    }
-
     // Triple DES on the first eight bytes of a block; the others come out as 00. The clauses after the first are laws of the definition.
+    #[tactic(auto, unfolding(crate::specs::TripleDes::triple_des, cipher::specs::Words::bytes_of))]
     fn encipher(key: [u8; 16], block: [u8; 16]) -> [u8; 16]
         ensures value { result ≡ triple_des key block }
         ensures permutations { PermutationLaws }
@@ -57,6 +45,8 @@ impl Cipher for TripleDes {
         ensures parity { ParityIgnored }
         ensures known_answers { KnownAnswersHold }
     {
-        enciphered_block(key, block)
+        let (k1, k2) = words_of(key);
+        let (x, _) = words_of(block);
+        block_of(triple_des(k1, k2, x), 0)
     }
 }

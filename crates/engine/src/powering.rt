@@ -15,11 +15,7 @@ pub fn power_on<M: Memory>(memory: &M, state: &mut State) -> Result<(), HostRefu
     if memory.count() < 32 {
         return Err(HostRefusal::TooFewPages);
     }
-    match read_card(memory) {
-        Some(_) => {
-            *state = State::at_rest();
-            Ok(())
-        }
-        None => Err(HostRefusal::NotACard),
-    }
+    read_card(memory).ok_or(HostRefusal::NotACard)?;
+    *state = State::at_rest();
+    Ok(())
 }

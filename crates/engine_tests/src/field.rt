@@ -1,6 +1,6 @@
 // Cards in the field: power-on takes them with their totals, and turns one away where a byte of a judged field is spoiled.
-use crate::states::{challenged, is_at_rest, is_challenged, number_of};
-use card::{Last, read_card, sample_record};
+use crate::states::{challenged, number_of};
+use card::{Kind, State, read_card, sample_record};
 use engine::power_on;
 use memory::Image;
 use report::describe;
@@ -54,22 +54,19 @@ struct Changed {
     byte: u8,
 }
 
-// The number that power-on answers with one byte replaced; 255 where the state is not what it then is to be.
-fn number_with(changed: Changed) -> u8 {
+// The number that power-on answers with one byte replaced; none where the image has no such byte, or the state is not what it then is to be.
+fn number_with(changed: Changed) -> Option<u8> {
     let mut bytes = after_eleven_rides();
-    if changed.at >= 512 {
-        return 255;
-    }
-    bytes[changed.at] = changed.byte;
+    *bytes.get_mut(changed.at)? = changed.byte;
     let image = Image::new(&mut bytes);
     let mut state = challenged();
     let number = number_of(power_on(&image, &mut state));
-    let kept = if number == 0 {
-        is_at_rest(state)
+    let expected = if number == 0 {
+        State::at_rest()
     } else {
-        is_challenged(state)
+        challenged()
     };
-    if kept { number } else { 255 }
+    (state == expected).then_some(number)
 }
 
 #[test]
@@ -78,7 +75,7 @@ fn is_taken_with_its_totals(rt: HostRuntime) -> Result<(), Fail> {
     let image = Image::new(&mut bytes);
     let mut state = challenged();
     assert_eq!(rt; number_of(power_on(&image, &mut state)), 0);
-    assert!(rt; is_at_rest(state));
+    assert_eq!(rt; state, State::at_rest());
     let card = read_card(&image).ok_or("no card")?;
     assert_eq!(rt; card.limits.ceiling, 3000);
     assert_eq!(rt; card.limits.limit, 20000);
@@ -86,7 +83,7 @@ fn is_taken_with_its_totals(rt: HostRuntime) -> Result<(), Fail> {
     assert_eq!(rt; card.purse.nt, 13);
     assert_eq!(rt; card.purse.next, 1);
     assert_eq!(rt; card.purse.held, 10);
-    assert!(rt; matches!(card.purse.last, Last::Ride));
+    assert_eq!(rt; card.purse.last, Some(Kind::Ride));
     let newest = card.newest.ok_or("no newest record")?;
     assert_eq!(rt; newest.nt, 12);
     assert_eq!(rt; newest.amount, 2100);
@@ -167,7 +164,7 @@ fn is_turned_away_where_a_judged_field_is_spoiled(rt: HostRuntime) {
         },
     ];
     for case in spoiled {
-        assert_eq!(rt; number_with(case), 5);
+        assert_eq!(rt; number_with(case), Some(5));
     }
 }
 
@@ -201,7 +198,7 @@ fn is_taken_with_another_allowed_byte(rt: HostRuntime) {
         },
     ];
     for case in allowed {
-        assert_eq!(rt; number_with(case), 0);
+        assert_eq!(rt; number_with(case), Some(0));
     }
 }
 

@@ -1,6 +1,6 @@
 // Issue accepted, each of its refusals, and wear.
-use crate::states::{challenged, is_at_rest, is_challenged, number_of};
-use card::{read_card, sample_record};
+use crate::states::{challenged, number_of};
+use card::{State, read_card, sample_record};
 use engine::{issue, power_on};
 use memory::{Image, Memory, Wearing};
 use std::test::Fail;
@@ -15,7 +15,7 @@ fn is_accepted_on_an_image(rt: HostRuntime) -> Result<(), Fail> {
         number_of(issue(&mut image, &mut state, &sample_record())),
         0
     );
-    assert!(rt; is_at_rest(state));
+    assert_eq!(rt; state, State::at_rest());
     assert_eq!(rt;
         image.read(1)?,
         [
@@ -50,7 +50,7 @@ fn is_refused_by_2_under_32_pages(rt: HostRuntime) -> Result<(), Fail> {
     // an unfit record too: the number of pages decides first
     assert_eq!(rt; number_of(issue(&mut image, &mut state, &[])), 2);
     assert_eq!(rt; number_of(power_on(&image, &mut state)), 2);
-    assert!(rt; is_challenged(state));
+    assert_eq!(rt; state, challenged());
     assert_eq!(rt; image.read(0)?, [0xA5; 16]);
     Ok(())
 }
@@ -100,7 +100,7 @@ fn is_refused_by_3_for_another_record(rt: HostRuntime) -> Result<(), Fail> {
     holds_one[41] = 1;
     holds_one[42] = 1;
     assert_eq!(rt; number_of(issue(&mut memory, &mut state, &holds_one)), 3);
-    assert!(rt; is_challenged(state));
+    assert_eq!(rt; state, challenged());
     assert_eq!(rt; memory.read(0)?, [0; 16]);
     Ok(())
 }
@@ -142,11 +142,11 @@ fn is_refused_by_4_at_a_worn_page(rt: HostRuntime) -> Result<(), Fail> {
         number_of(issue(&mut memory, &mut state, &sample_record())),
         4
     );
-    assert!(rt; is_challenged(state));
+    assert_eq!(rt; state, challenged());
     assert_eq!(rt; memory.read(0)?, [0; 16]);
     assert_eq!(rt; memory.is_worn(0)?, false);
     assert_eq!(rt; number_of(power_on(&memory, &mut state)), 5);
-    assert!(rt; is_challenged(state));
+    assert_eq!(rt; state, challenged());
     Ok(())
 }
 

@@ -16,11 +16,3 @@ pub(crate) fn challenged() -> State {
         session: Session::Challenged(7),
     }
 }
-
-pub(crate) fn is_challenged(state: State) -> bool {
-    matches!(state.selection, Selection::Card) && matches!(state.session, Session::Challenged(7))
-}
-
-pub(crate) fn is_at_rest(state: State) -> bool {
-    matches!(state.selection, Selection::Nothing) && matches!(state.session, Session::Quiet)
-}

@@ -1,7 +1,9 @@
 -- Laws of bytes read as pages.
-use Rattle.std.proofs.Common.{◌≡◌, ℕ, ◌+◌, ◌*◌, ◌/◌, ◌<◌, ◌≤◌, List, [], ◌++◌, length, get_or, take, drop, set, sym, refl, ap, ◌∙◌, ⊎_elim, arith}
-use Rattle.std.proofs.lemmas.List.{same_lists, length-set, get_or-set_same, get_or-set_other, length-append, length-take, length-drop, drop_at, take_at, length-take-le, drop-take}
+use Rattle.std.proofs.Common.{◌≡◌, ℕ, zero, suc, ◌+◌, ◌*◌, ◌/◌, ◌<◌, ◌≤◌, List, [], ◌++◌, map, length, get_or, take, drop, set, sym, refl, ap, ◌∙◌, ⊎_elim, arith}
+use Rattle.std.proofs.lemmas.List.{same_lists, length-set, get_or-set_same, get_or-set_other, length-append, length-take, length-drop, drop_at, take_at, length-take-le, drop-take, drop-drop}
 use Rattle.std.proofs.lemmas.Slice.{take-put_mid_below, drop-put_mid}
+use Rattle.std.specs.List.{range_with_len}
+use Rattle.std.specs.Simd.{first_chunks}
 use Rattle.std.proofs.lemmas.List.FromFn.{length-map-range_with_len, get_or-map-range_with_len}
 use Rattle.std.proofs.lemmas.Bool.{cases_eq, cases_lt}
 use Rattle.memory.specs.ImagePages.{page_at, pages_of, tail_of, replaced, PageStart}
@@ -71,3 +73,13 @@ page_start xs i h =
       writes = λ b. pages_of_replaced xs b i here;
       keeps = λ b. tail_of_replaced xs b i here;
     }
+
+-- n pages from page i on are the chunks of 16 bytes from there
+chunks_from : (xs : List ℕ) (n i : ℕ) → first_chunks 16 n (drop (16 * i) xs) ≡ map (page_at xs) (range_with_len i n)
+chunks_from xs zero i = refl
+chunks_from xs (suc n) i = grind (arith, chunks_from xs n (i + 1), drop-drop 16 (16 * i) xs)
+
+-- the whole pages are the chunks of 16 bytes
+pub first_chunks_pages : (xs : List ℕ) → first_chunks 16 (length xs / 16) xs ≡ pages_of xs
+unfolding pages_of
+first_chunks_pages xs = chunks_from xs (length xs / 16) 0

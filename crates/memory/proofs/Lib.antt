@@ -1,2 +1,3 @@
 pub mod BytesAsPages
 pub mod Plans
+pub mod WearingPages

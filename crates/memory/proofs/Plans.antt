@@ -1,12 +1,12 @@
 -- Laws of plans: what they answer, and what the writes of their entries, one after the other, come to.
-use Rattle.std.proofs.Common.{◌≡◌, ℕ, zero, suc, ◌+◌, ◌<◌, ◌≤◌, Bool, true, false, cond, eqb, ltb, List, [], ◌∷◌, length, get_or, drop, set, is_ok, Ok, Err, Result, sym, refl, ap, ◌∙◌, ⊎_elim, add-one, arith}
-use Rattle.std.proofs.lemmas.List.{at_drop_more, at_drop_all, length-set, get_or-set_same, get_or-set_other}
-use Rattle.std.proofs.lemmas.Bool.{cases_eq, cond-true, cond-false, eq-eqb, ne_eqb}
+use Rattle.std.proofs.Common.{◌≡◌, ℕ, zero, suc, ◌+◌, ◌<◌, ◌≤◌, Bool, List, [], ◌∷◌, length, get_or, drop, set, Ok, Result, sym, refl, ◌∙◌, add-one, arith}
+use Rattle.std.proofs.lemmas.List.{at_drop_more, at_drop_all, length-set}
+use Rattle.std.proofs.lemmas.Grind.{common_steps}
+use Rattle.std.proofs.lemmas.Bool.Decides.{nat_tests}
 use Rattle.memory.specs.declared.fault.Fault.{Fault}
-use Rattle.memory.specs.declared.fault.Fault.TheVariants.{PastEnd, Worn}
 use Rattle.memory.specs.declared.plan.PageWrite.{PageWrite}
-use Rattle.memory.specs.Pages.{mark_answer, write_answer, Written}
-use Rattle.memory.specs.Plan.{Above, Rising, Off, plan_answer, written, planned, PlanWritten, Placed}
+use Rattle.memory.specs.Pages.{write_answer, Written}
+use Rattle.memory.specs.Plan.{Above, Rising, Off, plan_answer, written, planned, Placed}
 
 -- the plan names no page twice
 abbrev pub Apart : List PageWrite → Type 0
@@ -37,59 +37,15 @@ entry_at es i = get_or es i no_write
 abbrev Answer : Type 0
 Answer = Result (Unit {0}) Fault
 
--- the answer at an entry, by whether there is such a page and whether it is worn: where it can be written, that of the others
-abbrev asked : Bool → Bool → Answer → Answer
-asked there worn rest = cond there (cond worn (Err Worn) rest) (Err PastEnd)
-
-asked_past : (there worn : Bool) (rest : Answer) (f : Fault) → Err f ≡ cond there (Ok worn) (Err PastEnd) → asked there worn rest ≡ Err f
-asked_past true worn rest f e = cc
-asked_past false worn rest f e = cc
-
-asked_marked : (there worn : Bool) (rest : Answer) (mark : Bool) → Ok mark ≡ cond there (Ok worn) (Err PastEnd) → asked there worn rest ≡ cond mark (Err Worn) rest
-asked_marked true worn rest mark e = cc
-asked_marked false worn rest mark e = cc
-
-asked_done : (there worn : Bool) (rest : Answer) → asked there worn rest ≡ Ok tt → (asked there worn (Ok tt) ≡ Ok tt) × (rest ≡ Ok tt)
-asked_done true true rest e = (cc, cc)
-asked_done true false rest e = (refl, e)
-asked_done false worn rest e = (cc, cc)
-
--- the answer of the entries of a plan from i on
-module _ (n : ℕ) (w : ℕ → Bool) (es : List PageWrite) (i : ℕ) (h : i < length es) where
-  abbrev page : ℕ
-  page = (entry_at es i).page
-
-  abbrev rest : Answer
-  rest = plan_answer n w (drop (i + 1) es)
-
-  answer_here : plan_answer n w (drop i es) ≡ asked (ltb page n) (w page) rest
-  answer_here = at_drop_more (plan_answer n w) es i no_write h
-
-  -- where entry i's page is not there
-  pub answer_past : (f : Fault) → Err f ≡ mark_answer n w page → plan_answer n w (drop i es) ≡ Err f
-  answer_past f e = answer_here ∙ asked_past (ltb page n) (w page) rest f e
-
-  answer_marked : (mark : Bool) → Ok mark ≡ mark_answer n w page → plan_answer n w (drop i es) ≡ cond mark (Err Worn) rest
-  answer_marked mark e = answer_here ∙ asked_marked (ltb page n) (w page) rest mark e
-
-  -- where it is worn
-  pub answer_worn : (mark : Bool) → Ok mark ≡ mark_answer n w page → mark ≡ true → plan_answer n w (drop i es) ≡ Err Worn
-  answer_worn mark e t = answer_marked mark e ∙ cond-true mark (Err Worn) rest t
-
-  -- where it is open
-  pub answer_open : (mark : Bool) → Ok mark ≡ mark_answer n w page → mark ≡ false → plan_answer n w (drop i es) ≡ rest
-  answer_open mark e t = answer_marked mark e ∙ cond-false mark (Err Worn) rest t
-
-  -- where all of them can be written, entry i can, and the others can
-  answer_done : plan_answer n w (drop i es) ≡ Ok tt → (write_answer n w page ≡ Ok tt) × (rest ≡ Ok tt)
-  answer_done e = asked_done (ltb page n) (w page) rest (sym answer_here ∙ e)
+-- where the entries of a plan from i on can all be written, entry i can, and the others can
+answer_done : (n : ℕ) (w : ℕ → Bool) (es : List PageWrite) (i : ℕ) → i < length es → plan_answer n w (drop i es) ≡ Ok tt
+    → (write_answer n w (entry_at es i).page ≡ Ok tt) × (plan_answer n w (drop (i + 1) es) ≡ Ok tt)
+answer_done n w es i h e = grind (arith, at_drop_more (plan_answer n w) es i no_write h)
 
 -- a plan's answer is the same where only the mark of a page changed that the plan does not name
 answer_same : (n : ℕ) (w w' : ℕ → Bool) (p : ℕ) (es : List PageWrite) → ((k : ℕ) → (k ≡ p → ⊥) → w' k ≡ w k) → Off es p → plan_answer n w' es ≡ plan_answer n w es
 answer_same n w w' p [] f off = refl
-answer_same n w w' p (e ∷ es) f (ne, off) =
-    ap (λ mark. asked (ltb e.page n) mark (plan_answer n w' es)) (f e.page ne)
-    ∙ ap (asked (ltb e.page n) (w e.page)) (answer_same n w w' p es f off)
+answer_same n w w' p (e ∷ es) f (ne, off) = grind (arith, f e.page ne, answer_same n w w' p es f off)
 
 -- an entry's page is not one that the plan does not name
 off_at : (es : List PageWrite) (k i : ℕ) → i < length es → Off es k → (entry_at es i).page ≡ k → ⊥
@@ -109,24 +65,17 @@ apart_at es i h a = rw add-one (apart_suc es i h a)
 -- a plan has nothing for a page that it does not name
 planned_off : (es : List PageWrite) (k : ℕ) (old : List ℕ) → Off es k → planned es k old ≡ old
 planned_off [] k old off = refl
-planned_off (e ∷ es) k old off = cond-false (eqb e.page k) e.bytes _ (ne_eqb e.page k off.0) ∙ planned_off es k old off.1
+planned_off (e ∷ es) k old off = grind (arith, nat_tests, off.0, planned_off es k old off.1)
 
 pub length-written : (es : List PageWrite) (ps : List (List ℕ)) → length (written es ps) ≡ length ps
 length-written [] ps = refl
-length-written (e ∷ es) ps = length-written es (set ps e.page e.bytes) ∙ length-set ps _ _
+length-written (e ∷ es) ps = grind (arith, length-written es (set ps e.page e.bytes), length-set ps e.page e.bytes)
 
 -- the writes one after the other leave in each page the bytes that the plan has for it
 pub get_or-written : (es : List PageWrite) (ps : List (List ℕ)) → Apart es → (k : ℕ) → k < length ps → get_or (written es ps) k [] ≡ planned es k (get_or ps k [])
 get_or-written [] ps apart k h = refl
 get_or-written (e ∷ es) ps apart k h =
-    let p : ℕ = e.page in
-    let b : List ℕ = e.bytes in
-    let old : List ℕ = planned es k (get_or ps k []) in
-    get_or-written es (set ps p b) apart.1 k (simp length-set h)
-    ∙ ⊎_elim
-    (λ same. ap (planned es k) (rw (← same) (get_or-set_same ps p b [] (omega arith))) ∙ planned_off es k b (rw (← same) apart.0) ∙ sym (cond-true (eqb p k) b old (eq-eqb p k same)))
-    (λ ne. ap (planned es k) (get_or-set_other ps p k b [] (λ same. ne (sym same))) ∙ sym (cond-false (eqb p k) b old (ne_eqb p k ne)))
-    (cases_eq p k)
+    grind (arith, nat_tests, common_steps, get_or-written es (set ps e.page e.bytes) apart.1 k, planned_off es k e.bytes, apart.0)
 
 -- The first i entries of a plan are written, and the others can be: ps and worn, the pages and the marks at first, are now ps' and worn'.
 pub record Partway (ps : List (List ℕ)) (worn : ℕ → Bool) (plan : List PageWrite) (i : ℕ) (ps' : List (List ℕ)) (worn' : ℕ → Bool) : Type 0 where
@@ -142,42 +91,28 @@ pub record Partway (ps : List (List ℕ)) (worn : ℕ → Bool) (plan : List Pag
 
 -- entry i is written next
 module _ {ps ps' ps'' : List (List ℕ)} {w w' w'' : ℕ → Bool} {r : Answer} (plan : List PageWrite) (i : ℕ) (rising : Rising plan) (h : i < length plan) (so_far : Partway ps w plan i ps' w') (one : Written ps' w' (entry_at plan i).page (entry_at plan i).bytes r ps'' w'') where
-  step_done : r ≡ Ok tt
-  step_done = one.answer ∙ (answer_done (length ps') w' plan i h so_far.ready).0
-
-  -- it is not refused
-  pub step_refused : (f : Fault) → r ≡ Err f → ⊥
-  step_refused f e = let d = step_done in let z : ◌≡◌ {A = ℕ} 0 1 = cc in omega arith
+  open_here : (write_answer (length ps') w' (entry_at plan i).page ≡ Ok tt) × (plan_answer (length ps') w' (drop (i + 1) plan) ≡ Ok tt)
+  open_here = answer_done (length ps') w' plan i h so_far.ready
 
   step_bytes : ps'' ≡ set ps' (entry_at plan i).page (entry_at plan i).bytes
-  step_bytes = one.bytes ∙ ap (λ q. cond (is_ok q) (set ps' (entry_at plan i).page (entry_at plan i).bytes) ps') step_done
+  step_bytes = grind (arith, one.bytes, one.answer, open_here.0)
 
   pub step_on : Partway ps w plan (i + 1) ps'' w''
   step_on = record {
     within = omega arith;
     allowed = so_far.allowed;
-    ready =
-        ap (λ n. plan_answer n w'' (drop (i + 1) plan)) (ap length step_bytes ∙ length-set ps' _ _)
-        ∙ answer_same (length ps') w' w'' (entry_at plan i).page (drop (i + 1) plan) one.others (apart_at plan i h (rising_apart plan rising))
-        ∙ (answer_done (length ps') w' plan i h so_far.ready).1;
-    ahead = ap (written (drop (i + 1) plan)) step_bytes ∙ sym (at_drop_more (λ es. written es ps') plan i no_write h) ∙ so_far.ahead;
+    ready = grind (arith, step_bytes, length-set ps' (entry_at plan i).page (entry_at plan i).bytes, answer_same (length ps') w' w'' (entry_at plan i).page (drop (i + 1) plan) one.others (apart_at plan i h (rising_apart plan rising)), open_here.1);
+    ahead = grind (arith, step_bytes, at_drop_more (λ es. written es ps') plan i no_write h, so_far.ahead);
     others = λ k off. one.others k (λ e. off_at plan k i h off (sym e)) ∙ so_far.others k off;
   }
 
 -- no entry is left
 module _ {ps ps' : List (List ℕ)} {w w' : ℕ → Bool} (plan : List PageWrite) (i : ℕ) (h : length plan ≤ i) (so_far : Partway ps w plan i ps' w') where
   all_bytes : ps' ≡ written plan ps
-  all_bytes = sym (at_drop_all (λ es. written es ps') plan i h) ∙ so_far.ahead
-
-  pub all_written : PlanWritten ps w plan (Ok tt) ps' w'
-  all_written = record {
-    answer = sym so_far.allowed;
-    bytes = all_bytes;
-    others = so_far.others;
-  }
+  all_bytes = grind (arith, at_drop_all (λ es. written es ps') plan i h, so_far.ahead)
 
   pub all_placed : Rising plan → Placed ps plan ps'
   all_placed rising = record {
-    count = ap length all_bytes ∙ length-written plan ps;
-    each = λ k within. ap (λ qs. get_or qs k []) all_bytes ∙ get_or-written plan ps (rising_apart plan rising) k within;
+    count = rw all_bytes (length-written plan ps);
+    each = rw all_bytes (get_or-written plan ps (rising_apart plan rising));
   }

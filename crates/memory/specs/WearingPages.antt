@@ -1,7 +1,16 @@
 -- A memory of 64 pages, each with a count of writes left.
-use Rattle.std.specs.Prelude.{◌≡◌, ℕ, ◌-◌, ◌<◌, Bool, List, [], length, ◌==◌, slice_index, slice_index_or, slice_set}
-use Rattle.std.proofs.Common.{arith}
+use Rattle.std.specs.Prelude.{◌≡◌, ℕ, ◌-◌, ◌<◌, Bool, List, [], ◌∷◌, map, length, ◌==◌, slice_index, slice_index_or, slice_set}
+use Rattle.std.proofs.Common.{zero, suc, arith}
+use Rattle.memory.specs.declared.wearing_page.WearingPage.{WearingPage}
 use Rattle.memory.specs.Pages.{Outside}
+
+-- the bytes of each page
+abbrev pub bytes_of : List WearingPage → List (List ℕ)
+bytes_of pages = map (λ p. p.bytes) pages
+
+-- how many writes each page has left
+abbrev pub left_of : List WearingPage → List ℕ
+left_of pages = map (λ p. p.left) pages
 
 -- the marks by the counts of writes left: a page is worn where no write is left
 abbrev pub spent : List ℕ → ℕ → Bool
@@ -16,5 +25,7 @@ abbrev pub none_outside : Outside
 none_outside = record { lenders = []; rest = [] }
 
 -- every page has 16 bytes
-pub all_sixteen : (pages : List (List ℕ)) → length pages ≡ 64 → ((k : ℕ) → k < 64 → length (slice_index_or pages k []) ≡ 16) → (k : ℕ) → k < length pages → length (slice_index_or pages k []) ≡ 16
-all_sixteen pages long each k h = each k (omega arith)
+pub all_sixteen : (pages : List WearingPage) (k : ℕ) → k < length (bytes_of pages) → length (slice_index_or (bytes_of pages) k []) ≡ 16
+all_sixteen [] k h = absurd (omega arith)
+all_sixteen (p ∷ ps) zero h = p.sized
+all_sixteen (p ∷ ps) (suc k) h = all_sixteen ps k (omega arith)

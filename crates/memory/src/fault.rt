@@ -12,6 +12,7 @@ pub enum Fault {
 
 impl Fault {
     // The number by which a refusal is reported.
+    // Form: a method, since `u8::from(fault)` would not say which number is meant.
     pub fn number(self) -> u8
         ensures { result ≡ fault_number self }
     {

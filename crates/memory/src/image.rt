@@ -20,11 +20,11 @@ impl<'a> Image<'a> {
         Image { bytes }
     }
 
-    // How many bytes the whole pages take.
-    fn whole(&self) -> usize
-        ensures { result ≡ 16 * length (pages_of self.now.bytes.now) }
+    // The whole pages among the bytes.
+    fn pages(&self) -> &[[u8; 16]]
+        ensures { result.now ≡ pages_of self.now.bytes.now }
     {
-        self.bytes.len() - self.bytes.len() % 16
+        self.bytes.as_chunks().0
     }
 
     // Where a page begins among the bytes, and so what a read and a write of 16 bytes there come to.
@@ -46,23 +46,15 @@ impl<'a> Memory for Image<'a> {
     ghost sixteen = { λ m. pages_sixteen m.bytes.now };
 
     fn count(&self) -> usize {
-        self.whole() / 16
+        self.pages().len()
     }
 
     fn read(&self, page: usize) -> Result<[u8; 16], Fault> {
-        if page >= self.count() {
-            return Err(Fault::PastEnd);
-        }
-        let at = self.start(page);
-        let mut out = [0; 16];
-        out.copy_from_slice(&self.bytes[at..at + 16]);
-        Ok(out)
+        self.pages().get(page).copied().ok_or(Fault::PastEnd)
     }
 
     fn is_worn(&self, page: usize) -> Result<bool, Fault> {
-        if page >= self.count() {
-            return Err(Fault::PastEnd);
-        }
+        self.read(page)?;
         Ok(false)
     }
 
@@ -76,6 +68,7 @@ impl<'a> Memory for Image<'a> {
         if page >= self.count() {
             return Err(Fault::PastEnd);
         }
+        // Form: `as_chunks_mut` says nothing of what the slice ends as, so a write through it leaves `returns-clause-written` open.
         let at = self.start(page);
         self.bytes[at..at + 16].copy_from_slice(&bytes);
         Ok(())

@@ -15,6 +15,7 @@ mod image;
 mod memory;
 mod plan;
 mod wearing;
+mod wearing_page;
 
 pub use fault::Fault;
 pub use image::Image;

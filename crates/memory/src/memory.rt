@@ -14,9 +14,6 @@ pub trait Memory {
     // What no call changes: the ghost names of the references through which bytes are lent, and the bytes past the last whole page.
     ghost outside: { Self → Outside };
 
-    // Every page has 16 bytes.
-    ghost sixteen: { (m : Self) (k : ℕ) → k < length (pages m) → length (slice_index_or (pages m) k []) ≡ 16 };
-
     // The number of pages, which no call changes.
     fn count(&self) -> usize
         ensures { result ≡ length (pages self.now) };
@@ -34,4 +31,7 @@ pub trait Memory {
         ensures written { Written (pages self.old) (worn self.old) page bytes result (pages self.new) (worn self.new) }
         ensures outside { outside self.new ≡ outside self.old }
         ensures refused { is_ok result ≡ false → self.new ≡ self.old };
+
+    // Every page has 16 bytes.
+    ghost sixteen: { (m : Self) (k : ℕ) → k < length (pages m) → length (slice_index_or (pages m) k []) ≡ 16 };
 }

@@ -7,7 +7,7 @@ use Rattle.card.specs.Options.{and_then, only_if}
 use Rattle.card.specs.Pages.{Pages, page, slot_bytes}
 use Rattle.card.specs.Purse.{newest_slot}
 use Rattle.card.specs.Record.{record_of}
-use Rattle.report.specs.Lines.{card_lines, described}
+use Rattle.report.specs.Lines.{card_lines, files_of, described}
 use Rattle.report.specs.Keys.{SameButKeys, KeysNotShown}
 
 and_then_same : {X Y : Type 0} (o : Option X) (f g : X → Option Y) → ((x : X) → f x ≡ g x) → and_then o f ≡ and_then o g
@@ -43,12 +43,12 @@ module _ (p q : Pages) (same : SameButKeys p q) where
       (λ f. with_newest (newest_slot f.purse) f q) (λ f. newest_same (newest_slot f.purse) f)
       ∙ ap (λ x. and_then x (λ f. with_newest (newest_slot f.purse) f q)) first_same)
 
+  files_same : files_of p ≡ files_of q
+  files_same = rw (below 3 (omega arith), below 4 (omega arith), below 5 (omega arith))
+
   described_same : (o : Option CardView) → described o p ≡ described o q
   described_same None = refl
-  described_same (Some v) =
-      ap (λ x. Some (card_lines v x (page p 4) (page p 5))) (below 3 (omega arith))
-      ∙ ap (λ x. Some (card_lines v (page q 3) x (page p 5))) (below 4 (omega arith))
-      ∙ ap (λ x. Some (card_lines v (page q 3) (page q 4) x)) (below 5 (omega arith))
+  described_same (Some v) = ap (λ f. Some (card_lines v f)) files_same
 
 pub keys_not_shown : (p : Pages) → KeysNotShown p
 keys_not_shown p q same = ap (λ o. described o p) (card_same p q same) ∙ described_same p q same (card_of q)

@@ -53,6 +53,9 @@ padded_front b n len pad pos short e =
     let l : length (padded b (take len pad)) ≡ n = length-padded b (take len pad) pos ∙ ap (λ k. blocks b k * b) t ∙ sym e in
     take_at (padded b (take len pad)) (drop n pad) n l
 
+-- what the padding in place needs
+pub ruleset padding_steps = (at_least_one, at_most_16, at_most_one_more, room_for_one, padded_in_place, padded_front)
+
 -- the gap that is filled is shorter than a block
 rule_at : (b : ℕ) (m : List ℕ) → 0 < b → IsPadded b m (padded b m)
 unfolding padded

@@ -3,3 +3,4 @@ pub mod Compare
 pub mod Message
 pub mod Padding
 pub mod Sealer
+pub mod WorkpadMessage

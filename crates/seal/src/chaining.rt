@@ -1,43 +1,42 @@
 // The chaining of a message's blocks, for every cipher.
-ghost use Rattle.std.specs.Prelude.{◌≡◌, ◌*◌, ◌≤◌, length, take};
-ghost use Rattle.seal.specs.Padding.{blocks, padded_workpad};
+ghost use Rattle.std.specs.Prelude.{◌≡◌, ◌/◌, ◌≤◌, length};
+ghost use Rattle.seal.specs.Padding.{padded_workpad};
 ghost use Rattle.seal.specs.Chain.{xored, chained, last_result};
+ghost use Rattle.seal.specs.WorkpadMessage.{message_bytes, WorkpadBecomes};
 
-use crate::padding::pad;
+use crate::workpad_message::WorkpadMessage;
 use cipher::Cipher;
 
 // The block with a block of the text XORed in.
+#[tactic(auto, using(crate::proofs::Chains::xor_steps))]
 fn xor_in(mut block: [u8; 16], part: &[u8]) -> [u8; 16]
     requires { length part.now ≤ 16 }
     ensures { result ≡ xored block part.now }
 {
-    for i in 0..part.len() {
-        block[i] ^= part[i];
+    for (i, byte) in part.iter().enumerate() {
+        block[i] ^= *byte;
     }
     block
 }
 
-// The result after the first `count` blocks of a text.
-fn chain<C: Cipher>(key: [u8; 16], text: &[u8], count: usize) -> [u8; 16]
-    requires { count * C.size ≤ length text.now }
-    ensures { result ≡ chained (C.enciphered key) C.size text.now count }
+// The result after the whole blocks of a text.
+#[tactic(auto, using(crate::proofs::Chains::chain_steps))]
+fn chain<C: Cipher>(key: [u8; 16], text: &[u8]) -> [u8; 16]
+    ensures { result ≡ chained (C.enciphered key) C.BLOCK text.now (length text.now / C.BLOCK) }
 {
-    let size = C::block_size();
     let mut block = [0u8; 16];
-    for k in 0..count {
-        let at = k * size;
-        block = C::encipher(key, xor_in(block, &text[at..at + size]));
+    for part in text.chunks_exact(C::BLOCK) {
+        block = C::encipher(key, xor_in(block, part));
     }
     block
 }
 
-// The last result for the message of `len` bytes that stands in the workpad; it is padded there.
-pub(crate) fn last_result<C: Cipher>(key: [u8; 16], workpad: &mut [u8], len: usize) -> [u8; 16]
-    requires { (len ≤ length workpad.old) × (blocks C.size len * C.size ≤ length workpad.old) }
-    ensures value { result ≡ last_result (C.enciphered key) C.size (take len workpad.old) }
-    ensures workpad { workpad.new ≡ padded_workpad C.size workpad.old len }
+// The last result for a message on a workpad; it is padded there.
+#[tactic(auto, using(crate::proofs::Padded::at_most_16, crate::proofs::Padded::at_most_one_more))]
+pub(crate) fn last_result<C: Cipher>(key: [u8; 16], message: &mut WorkpadMessage<'_>) -> [u8; 16]
+    ensures value { result ≡ last_result (C.enciphered key) C.BLOCK (message_bytes message.old) }
+    ensures workpad { WorkpadBecomes message.old message.new (padded_workpad C.BLOCK message.old.workpad.now message.old.len) }
 {
-    let size = C::block_size();
-    let count = pad(workpad, len, size);
-    chain::<C>(key, &workpad[..count * size], count)
+    let end = message.pad(C::BLOCK);
+    chain::<C>(key, message.start(end))
 }

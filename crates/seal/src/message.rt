@@ -7,9 +7,10 @@ ghost use Rattle.seal.specs.Sealer.{seal_answer};
 
 use crate::sealer::Sealer;
 use crate::workpad::Workpad;
+use crate::workpad_message::WorkpadMessage;
 
 // Why a message gets no seal.
-#[derive(Clone, Copy, Drop, PartialEq, Eq)]
+#[derive(Clone, Copy, Debug, PartialEq, Eq, Drop)]
 pub enum SealRefusal {
     // the workpad has fewer bytes than the message and 16 more
     SmallWorkpad,
@@ -19,6 +20,7 @@ pub enum SealRefusal {
 
 // The seal of a message, worked out on the lent workpad. A workpad that is too small is left as it was; any other is all zero afterwards.
 // The clauses after the first two are laws of the definitions: of the padding, and of the chaining of a short message.
+#[tactic(auto, using(crate::proofs::Padded::padding_rule, crate::proofs::Padded::padding_table, crate::proofs::Chains::short_messages))]
 pub fn seal_message<S: Sealer>(
     sealer: &S,
     algorithm: u8,
@@ -32,30 +34,15 @@ pub fn seal_message<S: Sealer>(
     ensures padded_lengths { RowsHold padding_rows }
     ensures short { ShortMessages }
 {
-    seal_guarded(sealer, algorithm, key, message, workpad)
-}
-
-fn seal_guarded<S: Sealer>(
-    sealer: &S,
-    algorithm: u8,
-    key: [u8; 16],
-    message: &[u8],
-    workpad: &mut [u8],
-) -> Result<[u8; 4], SealRefusal>
-    ensures answer { result ≡ message_seal (S.registered sealer.now algorithm) (S.sealed sealer.now algorithm key message.now) (length message.now) (length workpad.old) }
-    ensures workpad { workpad.new ≡ message_workpad (length message.now) workpad.old }
-{
     if workpad.len() < 16 || workpad.len() - 16 < message.len() {
         return Err(SealRefusal::SmallWorkpad);
     }
     let guard = Workpad { bytes: workpad };
-    match seal_copied(sealer, algorithm, key, message, guard.bytes) {
-        Some(seal) => Ok(seal),
-        None => Err(SealRefusal::NotRegistered),
-    }
+    seal_copied(sealer, algorithm, key, message, guard.bytes).ok_or(SealRefusal::NotRegistered)
 }
 
 // Copies the message to the workpad's start and seals it there.
+#[tactic(auto, using(std::proofs::lemmas::List::take_at))]
 fn seal_copied<S: Sealer>(
     sealer: &S,
     algorithm: u8,
@@ -67,5 +54,9 @@ fn seal_copied<S: Sealer>(
     ensures { result ≡ seal_answer (S.registered sealer.now algorithm) (S.sealed sealer.now algorithm key message.now) }
 {
     workpad[..message.len()].copy_from_slice(message);
-    sealer.seal(algorithm, key, workpad, message.len())
+    let mut copy = WorkpadMessage {
+        workpad,
+        len: message.len(),
+    };
+    sealer.seal(algorithm, key, &mut copy)
 }

@@ -2,6 +2,7 @@
 ghost use Rattle.std.specs.Prelude.{true, if◌then◌else◌};
 
 use crate::sealer::Sealer;
+use crate::workpad_message::WorkpadMessage;
 
 // Answers by the first of the two that has the algorithm registered. A part may be a pair itself.
 #[derive(Drop)]
@@ -21,12 +22,12 @@ impl<A: Sealer, B: Sealer> Sealer for Pair<A, B> {
         &self,
         algorithm: u8,
         key: [u8; 16],
-        workpad: &mut [u8],
-        len: usize,
+        message: &mut WorkpadMessage<'_>,
     ) -> Option<[u8; 4]> {
-        match self.first.seal(algorithm, key, workpad, len) {
+        // Form: a match, since with `or_else` the proof does not learn what the closure leaves on the workpad (`returns-clause-workpad`).
+        match self.first.seal(algorithm, key, message) {
             Some(seal) => Some(seal),
-            None => self.second.seal(algorithm, key, workpad, len),
+            None => self.second.seal(algorithm, key, message),
         }
     }
 }

@@ -5,6 +5,7 @@ ghost use Rattle.seal.specs.Padding.{padded_workpad};
 
 use crate::chaining::last_result;
 use crate::sealer::Sealer;
+use crate::workpad_message::WorkpadMessage;
 use cipher::Cipher;
 
 // One cipher, registered under one algorithm byte.
@@ -17,21 +18,20 @@ pub struct Single<C> {
 impl<C: Cipher> Sealer for Single<C> {
     ghost registered = { λ s a. (a == s.algorithm) };
 
-    ghost sealed = { λ s a k m. seal_by (C.Cipher.enciphered k) C.Cipher.size m };
+    ghost sealed = { λ s a k m. seal_by (C.Cipher.enciphered k) C.Cipher.BLOCK m };
 
-    ghost leaves = { λ s a k p n. padded_workpad C.Cipher.size p n };
+    ghost leaves = { λ s a k p n. padded_workpad C.Cipher.BLOCK p n };
 
     fn seal(
         &self,
         algorithm: u8,
         key: [u8; 16],
-        workpad: &mut [u8],
-        len: usize,
+        message: &mut WorkpadMessage<'_>,
     ) -> Option<[u8; 4]> {
         if algorithm != self.algorithm {
             return None;
         }
-        let result = last_result::<C>(key, workpad, len);
-        Some([result[0], result[1], result[2], result[3]])
+        let [a, b, c, d, ..] = last_result::<C>(key, message);
+        Some([a, b, c, d])
     }
 }

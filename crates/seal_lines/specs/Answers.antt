@@ -1,10 +1,10 @@
 -- The answers to the lines of an input.
-use Rattle.std.specs.Prelude.{◌≡◌, ℕ, ◌+◌, ◌^◌, ◌<◌, Bool, cond, List, [], ◌∷◌, ◌++◌, length, Some, None, codes, decimal, Option}
+use Rattle.std.specs.Prelude.{◌≡◌, ℕ, ◌+◌, ◌^◌, ◌<◌, Bool, cond, List, [], ◌∷◌, ◌++◌, length, Some, None, codes, decimal, Option, Ok, Err, Result}
 use Rattle.text.specs.Hex.{hex_of}
 use Rattle.text.specs.Lines.{lines_of}
 use Rattle.seal_lines.specs.Requests.{Asked, request_of}
-use Rattle.seal_lines.specs.declared.answers.Answer.{Answer}
-use Rattle.seal_lines.specs.declared.answers.Answer.TheVariants.{Seal, NotRegistered, Form}
+use Rattle.seal_lines.specs.declared.answers.LineRefusal.{LineRefusal}
+use Rattle.seal_lines.specs.declared.answers.LineRefusal.TheVariants.{NotRegistered, Form}
 
 -- whether a sealer has an algorithm registered
 abbrev pub Registered : Type 0
@@ -15,19 +15,23 @@ abbrev pub Sealed : Type 0
 Sealed = ℕ → List ℕ → List ℕ → List ℕ
 
 -- the seal, where the algorithm is registered
-abbrev pub request_answer : Registered → Sealed → Asked → Answer
-request_answer registered sealed a = cond (registered a.algorithm) (Seal (sealed a.algorithm a.key a.message)) NotRegistered
+abbrev pub request_answer : Registered → Sealed → Asked → Result (List ℕ) LineRefusal
+request_answer registered sealed a = cond (registered a.algorithm) (Ok (sealed a.algorithm a.key a.message)) (Err NotRegistered)
 
 -- what a line gets for what it asks; another form decides first
-abbrev pub answer_of : Registered → Sealed → Option Asked → Answer
-answer_of registered sealed None = Form
+abbrev pub answer_of : Registered → Sealed → Option Asked → Result (List ℕ) LineRefusal
+answer_of registered sealed None = Err Form
 answer_of registered sealed (Some a) = request_answer registered sealed a
 
+-- a refusal in words
+abbrev pub refusal_words : LineRefusal → List ℕ
+refusal_words NotRegistered = codes "not registered"
+refusal_words Form = codes "form"
+
 -- an answer in words, the seal in capital hexadecimal
-abbrev pub answer_words : Answer → List ℕ
-answer_words (Seal seal) = hex_of seal
-answer_words NotRegistered = codes "not registered"
-answer_words Form = codes "form"
+abbrev pub answer_words : Result (List ℕ) LineRefusal → List ℕ
+answer_words (Ok seal) = hex_of seal
+answer_words (Err refusal) = refusal_words refusal
 
 -- a line of the output: the number of the line of the input, a comma, the answer in words, and 0A
 abbrev pub numbered_line : ℕ → List ℕ → List ℕ

@@ -1,7 +1,6 @@
 -- What a line of the input asks for.
 use Rattle.std.specs.Prelude.{ℕ, Bool, cond, ◌&&◌, List, length, take, drop, Some, None, Option, ◌==◌, nat_le, slice_index}
 use Rattle.text.specs.Hex.{hex_byte, bytes_of_hex}
-use Rattle.seal_lines.specs.declared.requests.Message.{Message}
 use Rattle.seal_lines.specs.declared.requests.Request.{Request}
 
 -- what is asked for: the seal of a message under an algorithm and a key
@@ -37,10 +36,6 @@ request_of line =
     (asked (hex_byte (slice_index line 0) (slice_index line 1)) (bytes_of_hex (take 32 (drop 3 line))) (at_most 47 (bytes_of_hex (drop 36 line))))
     None
 
--- the bytes of a message in memory
-abbrev pub message_of : Message → List ℕ
-message_of m = take m.len m.bytes
-
 -- what a request in memory asks for
 abbrev pub asked_by : Request → Asked
-asked_by r = record { algorithm = r.algorithm; key = r.key; message = message_of r.message }
+asked_by r = record { algorithm = r.algorithm; key = r.key; message = r.message.items }

@@ -34,6 +34,7 @@ pub fn card_sealer() -> Pair<Single<Seed>, Single<TripleDes>>
 }
 
 // The seal of a message by the card's sealer, worked out on the lent workpad. The last clause says that the examples of docs/SEALS.md hold.
+#[tactic(auto, using(crate::proofs::Examples::examples_hold))]
 pub fn card_seal(
     algorithm: u8,
     key: [u8; 16],
@@ -43,18 +44,6 @@ pub fn card_seal(
     ensures answer { result ≡ message_seal (card_registered algorithm) (card_sealed algorithm key message.now) (length message.now) (length workpad.old) }
     ensures workpad { workpad.new ≡ message_workpad (length message.now) workpad.old }
     ensures examples { ExamplesHold }
-{
-    seal_by_card(algorithm, key, message, workpad)
-}
-
-fn seal_by_card(
-    algorithm: u8,
-    key: [u8; 16],
-    message: &[u8],
-    workpad: &mut [u8],
-) -> Result<[u8; 4], SealRefusal>
-    ensures answer { result ≡ message_seal (card_registered algorithm) (card_sealed algorithm key message.now) (length message.now) (length workpad.old) }
-    ensures workpad { workpad.new ≡ message_workpad (length message.now) workpad.old }
 {
     seal_message(&card_sealer(), algorithm, key, message, workpad)
 }

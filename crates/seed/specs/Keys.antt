@@ -1,5 +1,5 @@
 -- The key schedule (RFC 4269).
-use Rattle.std.specs.Prelude.{◌≡◌, ℕ, zero, suc, ◌-◌, ◌*◌, ◌/◌, ◌%◌, ◌^◌, ◌<◌, ◌≤◌, cond, List, [], ◌∷◌, ◌==◌, bit_or, slice_index}
+use Rattle.std.specs.Prelude.{◌≡◌, ℕ, zero, suc, ◌-◌, ◌*◌, ◌/◌, ◌%◌, ◌^◌, ◌<◌, cond, List, [], ◌∷◌, ◌==◌, bit_or, slice_index}
 use Rattle.cipher.specs.Words.{word_at}
 use Rattle.seed.specs.Function.{g, plus, minus}
 use Rattle.seed.specs.declared.keys.KeyState.{KeyState}
@@ -49,16 +49,16 @@ c s = s.cd / 2 ^ 32
 abbrev d : KeyState → ℕ
 d s = s.cd % 2 ^ 32
 
--- the rounds are numbered from 1
-abbrev pub RoundNumber : ℕ → Type 0
-RoundNumber i = (1 ≤ i) × (i ≤ 16)
-
--- the subkeys of round i: Ki0 = G(A + C - KC(i-1)), Ki1 = G(B - D + KC(i-1))
-abbrev pub subkeys_of : KeyState → ℕ → Subkeys
-subkeys_of s i = record {
-  k0 = g (minus (plus (a s) (c s)) (kc (i - 1)));
-  k1 = g (plus (minus (b s) (d s)) (kc (i - 1)));
+-- the subkeys of a round with the constant k: G(A + C - k) and G(B - D + k)
+abbrev pub subkeys_with : KeyState → ℕ → Subkeys
+subkeys_with s k = record {
+  k0 = g (minus (plus (a s) (c s)) k);
+  k1 = g (plus (minus (b s) (d s)) k);
 }
+
+-- the subkeys of round i, i from 1: Ki0 = G(A + C - KC(i-1)), Ki1 = G(B - D + KC(i-1))
+abbrev pub subkeys_of : KeyState → ℕ → Subkeys
+subkeys_of s i = subkeys_with s (kc (i - 1))
 
 -- the state after round i: A || B rotated right by 8 bits where i is odd, else C || D rotated left by 8 bits
 abbrev pub rotated : KeyState → ℕ → KeyState

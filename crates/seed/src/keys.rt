@@ -1,27 +1,19 @@
 // The key schedule.
-ghost use Rattle.std.specs.Prelude.{◌≡◌, ◌-◌};
-ghost use Rattle.seed.specs.Keys.{RoundNumber, kc, key_state, subkeys_of, rotated};
+ghost use Rattle.std.specs.Prelude.{◌≡◌};
+ghost use Rattle.seed.specs.Keys.{key_state, subkeys_with, rotated};
 
 use crate::function::function_g;
-use crate::words::{high, low};
-use cipher::{first_word, second_word};
+use crate::words::split;
+use cipher::words_of;
 
 // The constants KC0 to KC15.
 #[rattlefmt::skip]
-const KC: [u32; 16] = [
+pub(crate) const KC: [u32; 16] = [
     0x9e3779b9, 0x3c6ef373, 0x78dde6e6, 0xf1bbcdcc,
     0xe3779b99, 0xc6ef3733, 0x8dde6e67, 0x1bbcdccf,
     0x3779b99e, 0x6ef3733c, 0xdde6e678, 0xbbcdccf1,
     0x779b99e3, 0xef3733c6, 0xde6e678d, 0xbcdccf1b,
 ];
-
-// KC(i-1), the constant of round `i`.
-fn constant(i: usize) -> u32
-    requires { RoundNumber i }
-    ensures { result ≡ kc (i - 1) }
-{
-    KC[i - 1]
-}
 
 // The subkeys of a round, Ki0 and Ki1.
 #[derive(Clone, Copy)]
@@ -42,24 +34,19 @@ impl KeyState {
     pub(crate) fn new(key: [u8; 16]) -> KeyState
         ensures { result ≡ key_state key }
     {
-        KeyState {
-            ab: first_word(key),
-            cd: second_word(key),
-        }
+        let (ab, cd) = words_of(key);
+        KeyState { ab, cd }
     }
 
-    // The subkeys of round `i`.
-    pub(crate) fn subkeys(self, i: usize) -> Subkeys
-        requires { RoundNumber i }
-        ensures { result ≡ subkeys_of self i }
+    // The subkeys of a round with the constant `kc`.
+    pub(crate) fn subkeys(self, kc: u32) -> Subkeys
+        ensures { result ≡ subkeys_with self kc }
     {
-        let a = high(self.ab);
-        let b = low(self.ab);
-        let c = high(self.cd);
-        let d = low(self.cd);
+        let (a, b) = split(self.ab);
+        let (c, d) = split(self.cd);
         Subkeys {
-            k0: function_g(a.wrapping_add(c).wrapping_sub(constant(i))),
-            k1: function_g(b.wrapping_sub(d).wrapping_add(constant(i))),
+            k0: function_g(a.wrapping_add(c).wrapping_sub(kc)),
+            k1: function_g(b.wrapping_sub(d).wrapping_add(kc)),
         }
     }
 
@@ -70,12 +57,12 @@ impl KeyState {
         if i % 2 == 1 {
             KeyState {
                 ab: self.ab.rotate_right(8),
-                cd: self.cd,
+                ..self
             }
         } else {
             KeyState {
-                ab: self.ab,
                 cd: self.cd.rotate_left(8),
+                ..self
             }
         }
     }

@@ -1,11 +1,11 @@
 // The sixteen rounds on the halves of a block.
-ghost use Rattle.std.specs.Prelude.{◌≡◌, ◌≤◌};
+ghost use Rattle.std.specs.Prelude.{◌≡◌};
 ghost use Rattle.seed.specs.Keys.{subkeys};
-ghost use Rattle.seed.specs.Seed.{halves_of, block_of, round, rounds, exchanged, sixteen_rounds};
+ghost use Rattle.seed.specs.Seed.{halves_of, block_of, round, exchanged, sixteen_rounds};
 
 use crate::function::function_f;
-use crate::keys::{KeyState, Subkeys};
-use cipher::{block_of, first_word, second_word};
+use crate::keys::{KC, KeyState, Subkeys};
+use cipher::{block_of, words_of};
 
 // The halves L and R of a block.
 #[derive(Clone, Copy)]
@@ -18,10 +18,8 @@ impl Halves {
     pub(crate) fn new(block: [u8; 16]) -> Halves
         ensures { result ≡ halves_of block }
     {
-        Halves {
-            left: first_word(block),
-            right: second_word(block),
-        }
+        let (left, right) = words_of(block);
+        Halves { left, right }
     }
 
     // The bytes of the block.
@@ -51,23 +49,16 @@ impl Halves {
     }
 }
 
-// The first `n` rounds with the subkeys of a key.
-fn rounds(n: usize, key: KeyState, block: Halves) -> Halves
-    requires { n ≤ 16 }
-    ensures { result ≡ rounds (subkeys key) n block }
-{
-    let mut keys = key;
-    let mut halves = block;
-    for i in 1..n + 1 {
-        halves = halves.round(keys.subkeys(i));
-        keys = keys.rotated(i);
-    }
-    halves
-}
-
 // Sixteen rounds with the subkeys of a key, the last without the exchange.
+#[tactic(auto, using(crate::proofs::Steps::no_round, crate::proofs::Steps::round_more, crate::proofs::Steps::rotated_more))]
 pub(crate) fn sixteen_rounds(key: KeyState, block: Halves) -> Halves
     ensures { result ≡ sixteen_rounds (subkeys key) block }
 {
-    rounds(16, key, block).exchanged()
+    let mut keys = key;
+    let mut halves = block;
+    for (i, kc) in KC.iter().enumerate() {
+        halves = halves.round(keys.subkeys(*kc));
+        keys = keys.rotated(i + 1);
+    }
+    halves.exchanged()
 }

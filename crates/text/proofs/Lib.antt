@@ -1,3 +1,4 @@
+pub mod HexPrints
 pub mod Hexes
 pub mod HexLaws
 pub mod HexReads

@@ -1,7 +1,11 @@
 -- Where the first line of a text ends.
-use Rattle.std.proofs.Common.{◌≡◌, ℕ, zero, suc, ◌+◌, ◌<◌, false, eqb, List, [], ◌∷◌, length, get_or, take, drop, sym, refl, ap, ◌∙◌, add-one, arith}
+use Rattle.std.proofs.Common.{◌≡◌, ℕ, zero, suc, ◌+◌, ◌<◌, false, eqb, List, [], ◌∷◌, length, get_or, take, drop, sym, refl, ap, ◌∙◌, add-one, arith, ◌≤◌, ◌==◌, Some, None}
 use Rattle.std.proofs.lemmas.List.{length-drop}
-use Rattle.std.proofs.lemmas.Bool.{eq-eqb, ne_eqb, cond-false, cond-true}
+use Rattle.std.proofs.lemmas.Grind.{common_steps}
+use Rattle.std.proofs.lemmas.List.Sums.{fails_before_first}
+use Rattle.std.proofs.lemmas.List.Quantifiers.{position-Some}
+use Rattle.std.specs.List.{position, position_or_len}
+use Rattle.std.proofs.lemmas.Bool.{eq-eqb, ne_eqb, eqb-true, eqb-false, cond-false, cond-true}
 use Rattle.text.specs.Lines.{lines_of, onto, before_end, behind_end, FirstLine}
 
 pub lines_none : lines_of [] ≡ []
@@ -57,13 +61,17 @@ last (b ∷ bs) none =
       lines = λ _. cond-false (eqb b 10) ([] ∷ lines_of bs) (onto b (lines_of bs)) off ∙ onto_last b bs more.lines;
     }
 
-pub first_at : (text line rest : List ℕ) (i : ℕ) → line ≡ take i text → rest ≡ drop (i + 1) text → i < length text
-    → ((k : ℕ) → k < i → get_or text k 0 ≡ 10 → ⊥) → get_or text i 0 ≡ 10 → FirstLine text line rest
-first_at text line rest i before behind h none end =
-    let e = ended text i h none end in
-    rw (before, behind, add-one i) (record { before = e.before; behind = e.behind; lines = e.lines; shorter = simp length-drop (omega arith) })
+-- where the first 0A stands at i
+pub first_at : (text line rest : List ℕ) (i : ℕ) → line ≡ take i text → rest ≡ drop (i + 1) text → Some i ≡ position (λ b. b == 10) text → FirstLine text line rest
+first_at text line rest i before behind found =
+    let at = position-Some (λ b. b == 10) text i 0 (sym found) in
+    let e = ended text i at.0 (λ k h. eqb-false (get_or text k 0) 10 (at.2 k h)) (eqb-true (get_or text i 0) 10 at.1) in
+    rw (before, behind, add-one i) (record { before = e.before; behind = e.behind; lines = e.lines; shorter = simp length-drop (omega (arith, at.0)) })
 
-pub first_last : (text : List ℕ) → 0 < length text → ((k : ℕ) → k < length text → get_or text k 0 ≡ 10 → ⊥) → FirstLine text text []
-first_last text h none =
-    let e = last text none in
-    record { before = e.before; behind = e.behind; lines = e.lines h ∙ ap (λ ls. text ∷ ls) (sym lines_none); shorter = h }
+-- where there is none
+pub first_last : (text : List ℕ) → 0 < length text → None ≡ position (λ b. b == 10) text → FirstLine text text []
+unfolding lines_of
+first_last text some none =
+    let all : length text ≤ position_or_len (λ b. b == 10) text = grind (arith, common_steps) in
+    let e = last text (λ k h. eqb-false (get_or text k 0) 10 (fails_before_first (λ b. b == 10) text k 0 (omega arith))) in
+    record { before = e.before; behind = e.behind; lines = e.lines some; shorter = some }

@@ -1,29 +1,32 @@
 // Bytes in capital hexadecimal.
-ghost use Rattle.std.specs.Prelude.{◌≡◌, ◌/◌, ◌<◌, ◌≤◌, length, IfOk, if◌then◌else◌, None, string_bytes, nat_lt};
+ghost use Rattle.std.specs.Prelude.{◌≡◌, ◌*◌, ◌==◌, ◌/◌, ◌<◌, ◌≤◌, length, IfOk, if◌then◌else◌, None, Some, string_bytes, nat_lt};
 ghost use Rattle.std.specs.Option.{option_map};
-ghost use Rattle.text.specs.Hex.{hex_digit, hex_of, hex_value, hex_byte, bytes_of_hex, leading_bytes, overlaid, WrittenRead, ReadWritten};
+ghost use Rattle.text.specs.Hex.{hex_of, hex_value, hex_byte, bytes_of_hex, leading_bytes, overlaid, WrittenRead, ReadWritten};
 
 use std::alloc::{AllocError, Global};
+use std::fmt;
 
-// A hexadecimal digit, in capitals.
-fn digit(n: u8) -> u8
-    requires { n < 16 }
-    ensures value { result ≡ hex_digit n }
-    ensures ascii { result < 128 }
-{
-    if n < 10 { b'0' + n } else { b'A' - 10 + n }
+// Bytes that print as two capital hexadecimal digits each.
+#[derive(Clone, Copy)]
+pub struct Hex<'a>(pub &'a [u8]);
+
+impl<'a> fmt::Display for Hex<'a> {
+    ghost output = { λ hex. Some (hex_of hex.0.now) };
+
+    #[tactic(auto, using(crate::proofs::HexPrints::one_more, std::proofs::lemmas::Fmt::hex_byte))]
+    fn fmt<W: fmt::Write>(&self, f: &mut fmt::Formatter<W>) -> fmt::Result {
+        for &b in self.0 {
+            write!(f, "{b:02X}")?;
+        }
+        Ok(())
+    }
 }
 
 // Two digits for each byte.
 pub fn hex_text(heap: Global, bytes: &[u8]) -> Result<String, AllocError>
     ensures { IfOk result (λ s. string_bytes s ≡ hex_of bytes.now) }
 {
-    let mut text = String::new(heap);
-    for b in bytes {
-        text.push(digit(*b / 16) as char)?;
-        text.push(digit(*b % 16) as char)?;
-    }
-    Ok(text)
+    Hex(bytes).to_string(heap)
 }
 
 // The number that a capital hexadecimal digit writes.
@@ -59,6 +62,7 @@ pub fn read_hex(text: &[u8], bytes: &mut [u8]) -> Option<usize>
 }
 
 // The same where every pair has a place.
+#[tactic(auto, using(crate::proofs::HexLaws::written_read, crate::proofs::HexLaws::read_written))]
 fn read_pairs(text: &[u8], bytes: &mut [u8]) -> Option<usize>
     requires { length text.now / 2 ≤ length bytes.old }
     ensures count { result ≡ option_map length (bytes_of_hex text.now) }
@@ -66,12 +70,23 @@ fn read_pairs(text: &[u8], bytes: &mut [u8]) -> Option<usize>
     ensures written_read { WrittenRead }
     ensures read_written { ReadWritten }
 {
-    let mut rest = text;
-    let mut n = 0;
-    while let [high, low, more @ ..] = rest {
-        bytes[n] = hex_byte(*high, *low)?;
-        n += 1;
-        rest = more;
+    let (pairs, left) = text.as_chunks::<2>();
+    for (i, pair) in pairs.iter().enumerate() {
+        bytes[i] = hex_byte(pair[0], pair[1])?;
     }
-    if rest.is_empty() { Some(n) } else { None }
+    if left.is_empty() {
+        Some(pairs.len())
+    } else {
+        None
+    }
+}
+
+// The N bytes that a text of 2 N digits writes; none where it has another form.
+#[tactic(auto, using(crate::proofs::HexReads::array_read, crate::proofs::HexReads::array_short))]
+pub fn hex_array<const N: usize>(text: &[u8]) -> Option<[u8; N]>
+    ensures { result ≡ (if length text.now == 2 * N then bytes_of_hex text.now else None) }
+{
+    let mut bytes = [0; N];
+    let count = read_hex(text, &mut bytes)?;
+    if count == N { Some(bytes) } else { None }
 }

@@ -2,10 +2,10 @@
 
 // Text as programs read and write it.
 //
-// `hex_text` writes bytes in capital hexadecimal; `hex_byte` and `read_hex` read them. `split_line` gives the first line of a text, and
-// `Lines` all of them, one after another.
+// `Hex` prints bytes in capital hexadecimal, and `hex_text` writes them to a text; `hex_byte`, `hex_array` and `read_hex` read them.
+// `split_line` gives the first line of a text, and `Lines` all of them, one after another.
 mod hex;
 mod lines;
 
-pub use hex::{hex_byte, hex_text, read_hex};
+pub use hex::{Hex, hex_array, hex_byte, hex_text, read_hex};
 pub use lines::{Lines, split_line};

@@ -1,19 +1,26 @@
 // The lines of a text.
-ghost use Rattle.std.specs.Prelude.{◌≡◌, ◌+◌, ◌<◌, [], length, take, drop, MatchOption};
+ghost use Rattle.std.specs.Prelude.{◌≡◌, ◌+◌, ◌<◌, ◌==◌, [], length, take, drop, MatchOption};
+ghost use Rattle.std.specs.List.{position};
 ghost use Rattle.text.specs.Lines.{FirstLine, LinesRule};
 ghost use Rattle.std.specs.Iterator.{at_most};
 
-// What stands before place `i` of `text`, and what stands behind it.
-fn around(text: &[u8], i: usize) -> (&[u8], &[u8])
-    requires { i < length text.now }
-    ensures { (result.0.now ≡ take i text.now) × (result.1.now ≡ drop (i + 1) text.now) }
+// Where the first 0A stands.
+fn line_end(text: &[u8]) -> Option<usize>
+    ensures { result ≡ position (λ b. b == 10) text.now }
 {
-    let (before, _) = text.split_at(i);
-    let (_, behind) = text.split_at(i + 1);
-    (before, behind)
+    text.iter().position(|b| *b == b'\n')
+}
+
+// What stands before place `end` of `text`, and what stands behind it.
+fn around(text: &[u8], end: usize) -> (&[u8], &[u8])
+    requires { end < length text.now }
+    ensures { (result.0.now ≡ take end text.now) × (result.1.now ≡ drop (end + 1) text.now) }
+{
+    (&text[..end], &text[end + 1..])
 }
 
 // The first line of `text` without its 0A, and what follows it; none where nothing is left.
+#[tactic(auto, using(crate::proofs::LineLaws::lines_rule))]
 pub fn split_line(text: &[u8]) -> Option<(&[u8], &[u8])>
     ensures first { MatchOption result (text.now ≡ []) (λ p. FirstLine text.now p.0.now p.1.now) }
     ensures rule { LinesRule }
@@ -21,12 +28,10 @@ pub fn split_line(text: &[u8]) -> Option<(&[u8], &[u8])>
     if text.is_empty() {
         return None;
     }
-    for (i, b) in text.iter().enumerate() {
-        if *b == b'\n' {
-            return Some(around(text, i));
-        }
+    match line_end(text) {
+        Some(end) => Some(around(text, end)),
+        None => Some((text, &[])),
     }
-    Some((text, &[]))
 }
 
 // The lines of a text, one after another.

@@ -1,21 +1,32 @@
-use Rattle.std.proofs.Common.{rules}
-use Rattle.text.proofs.Hexes.{starts, more, stops, stops_odd, done}
-use Rattle.text.proofs.HexLaws.{written_read, read_written}
+use Rattle.std.proofs.Common.{◌≡◌, length, Some, ap, ◌∙◌, rules}
+use Rattle.text.proofs.Hexes.{byte_at, more, stops, stops_odd, done}
 use Rattle.text.proofs.hex.read_pairs.Goals as goal
 
-pub loop-rest-init : goal.loop-rest-init
-loop-rest-init c = starts c.args.text.now c.args.bytes.now
+pub returns-in_err-bytes-clause-count : goal.returns-in_err-bytes-clause-count
+returns-in_err-bytes-clause-count c =
+    let byte = c.in_err-bytes.ensures ∙ byte_at _ _ _ _ c.as_chunks.ensures.front (search rules) in
+    c.from_residual.ensures ∙ (stops _ _ _ _ c.loop-i.invariant (search rules) (search rules) byte).0
 
-pub returns-in_err-bytes : goal.returns-in_err-bytes
-returns-in_err-bytes c =
-    let e = stops _ _ _ _ _ c.loop-rest.invariant (search rules) (search rules) c.in_err-bytes.ensures in
-    rw c.from_residual.ensures (record { count = e.0; bytes = e.1; written_read = written_read; read_written = read_written })
+pub returns-in_err-bytes-clause-bytes : goal.returns-in_err-bytes-clause-bytes
+returns-in_err-bytes-clause-bytes c =
+    let byte = c.in_err-bytes.ensures ∙ byte_at _ _ _ _ c.as_chunks.ensures.front (search rules) in
+    (stops _ _ _ _ c.loop-i.invariant (search rules) (search rules) byte).1
 
-pub loop-rest-preserved : goal.loop-rest-preserved
-loop-rest-preserved c = more _ _ _ _ _ c.loop-rest.invariant _ (search rules) c.in_ok-bytes.ensures (search rules)
+pub loop-i-preserved : goal.loop-i-preserved
+loop-i-preserved c =
+    let byte = c.in_ok-bytes.ensures ∙ byte_at _ _ _ _ c.as_chunks.ensures.front (search rules) in
+    more _ _ _ _ c.loop-i.invariant _ (search rules) byte (search rules)
 
-pub returns-then-is_empty : goal.returns-then-is_empty
-returns-then-is_empty c = let e = done _ _ _ _ _ c.loop-rest.invariant (search rules) (search rules) in record { count = e.0; bytes = e.1; written_read = written_read; read_written = read_written }
+pub returns-then-is_empty-clause-count : goal.returns-then-is_empty-clause-count
+returns-then-is_empty-clause-count c =
+    let all : length c.as_chunks.result.0.now ≡ c.loop-i.i = search rules in
+    ap Some all ∙ (done _ _ _ _ c.loop-i.invariant (search rules) (search rules)).0
 
-pub returns-else-is_empty : goal.returns-else-is_empty
-returns-else-is_empty c = let e = stops_odd _ _ _ _ _ c.loop-rest.invariant (search rules) (search rules) in record { count = e.0; bytes = e.1; written_read = written_read; read_written = read_written }
+pub returns-then-is_empty-clause-bytes : goal.returns-then-is_empty-clause-bytes
+returns-then-is_empty-clause-bytes c = (done _ _ _ _ c.loop-i.invariant (search rules) (search rules)).1
+
+pub returns-else-is_empty-clause-count : goal.returns-else-is_empty-clause-count
+returns-else-is_empty-clause-count c = (stops_odd _ _ _ _ c.loop-i.invariant (search rules) (search rules)).0
+
+pub returns-else-is_empty-clause-bytes : goal.returns-else-is_empty-clause-bytes
+returns-else-is_empty-clause-bytes c = (stops_odd _ _ _ _ c.loop-i.invariant (search rules) (search rules)).1

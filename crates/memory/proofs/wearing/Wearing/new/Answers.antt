@@ -1,6 +1,9 @@
-use Rattle.std.proofs.Common.{length, refl, ap, rules}
-use Rattle.std.proofs.lemmas.List.{get_or-replicate}
+use Rattle.std.proofs.Common.{arith, rules}
+use Rattle.memory.proofs.WearingPages.{alike, counted}
 use Rattle.memory.proofs.wearing.Wearing.new.Goals as goal
 
-pub invariant_of-result : goal.invariant_of-result
-invariant_of-result c = record { paged = refl; counted = search rules; sized = λ k h. ap length (get_or-replicate 64 k _ _ h) }
+pub returns-clause-bytes : goal.returns-clause-bytes
+returns-clause-bytes c = alike _ _ _ c.map.ensures.items.long (λ k d h. let made = c.map.ensures.items.at k 0 d h in search rules)
+
+pub returns-clause-counts : goal.returns-clause-counts
+returns-clause-counts c = counted _ _ (omega (arith, c.map.ensures.items.long)) (λ k d h. let made = c.map.ensures.items.at k 0 d (omega arith) in search rules)
