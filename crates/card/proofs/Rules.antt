@@ -1,5 +1,5 @@
 -- The card that is worked out page by page is the card of the rule.
-use Rattle.std.proofs.Common.{◌≡◌, ℕ, ◌+◌, ◌%◌, ◌<◌, ◌≤◌, Bool, true, cond, ◌&&◌, ◌||◌, eqb, leb, ◌⊎◌, List, is_some, Some, None, Option, sym, refl, ap, ◌∙◌, subst, ap₂, inl, inr, ⊎_elim, arith}
+use Rattle.std.proofs.Common.{◌≡◌, ℕ, ◌+◌, ◌%◌, ◌<◌, ◌≤◌, Bool, true, cond, ◌&&◌, ◌||◌, eqb, leb, ◌⊎◌, List, length, is_some, Some, None, Option, sym, refl, ap, ◌∙◌, subst, ap₂, inl, inr, ⊎_elim, arith}
 use Rattle.std.proofs.lemmas.Bool.Decides.{nat_tests}
 use Rattle.std.proofs.lemmas.Bool.{and_from, and_parts, eqb-true, eq-eqb, ne_eqb, leb-true, le-leb, lt-ltb, cases_lt, cond-true}
 use Rattle.std.proofs.lemmas.Option.{same_Some}
@@ -246,6 +246,10 @@ decides p = record { sound = λ e. let v = some_value (card_of p) e in card_soun
 -- the answer of a call that gives the card
 pub card_decides : (p : Pages) (r : Option CardView) → r ≡ card_of p → Decides (is_some r) (IsCard p)
 card_decides p r e = let P : Option CardView → Type 0 = λ o. Decides (is_some o) (IsCard p) in subst P (sym e) (decides p)
+
+-- the answer of a call that read the first pages
+pub read_decides : (p : Pages) (f : FirstPages) (r : Option CardView) → 32 ≤ length p → first_pages_of (page p 0) (page p 1) (page p 2) (page p 11) ≡ Some f → r ≡ with_newest (newest_slot f.purse) f p → Decides (is_some r) (IsCard p)
+read_decides p f r room e is = card_decides p r (is ∙ sym (cond-true _ _ _ (le-leb _ _ room) ∙ and_then_at _ _ _ e))
 
 -- what a card is read to hold is what page 2 says
 newest_purse : (o : Option ℕ) (f : FirstPages) (p : Pages) (v : CardView) → with_newest o f p ≡ Some v → f.purse ≡ v.purse

@@ -2,22 +2,22 @@ ghost use Rattle.std.specs.Prelude.{◌≡◌};
 ghost use Rattle.card.specs.Codec.{Decoded};
 ghost use Rattle.card.specs.Header.{life_cycle_byte, life_cycle_of, block_flag_byte, block_flag_of, header_bytes, header_of};
 
-use crate::bytes::{all_zero, part_at};
+use crate::bytes::part_at;
 use crate::code::UnknownCode;
 use crate::codec::Codec;
 
 // Whether the card is before use or in use. Before use it takes no transaction.
 #[derive(Clone, Copy, PartialEq, Eq, Debug)]
 pub enum LifeCycle {
-    BeforeUse,
-    InUse,
+    BeforeUse = 0x03,
+    InUse = 0x07,
 }
 
 // Whether the card is blocked. It then serves SELECT FILE, GET CHALLENGE and UNBLOCK alone.
 #[derive(Clone, Copy, PartialEq, Eq, Debug)]
 pub enum BlockFlag {
-    Free,
-    Blocked,
+    Free = 0x00,
+    Blocked = 0x01,
 }
 
 // What page 0 holds.
@@ -40,6 +40,7 @@ impl TryFrom<u8> for LifeCycle {
 
     ghost try_from_gives = { λ byte r. Decoded (life_cycle_of byte) byte r };
 
+    // Form: here, and for the two other enums, the codes stand again: a pattern takes no `LifeCycle::InUse as u8`, and guards would be no plainer.
     fn try_from(byte: u8) -> Result<LifeCycle, UnknownCode> {
         match byte {
             0x03 => Ok(LifeCycle::BeforeUse),
@@ -53,10 +54,7 @@ impl From<LifeCycle> for u8 {
     ghost from_gives = { λ life byte. byte ≡ life_cycle_byte life };
 
     fn from(life: LifeCycle) -> u8 {
-        match life {
-            LifeCycle::BeforeUse => 0x03,
-            LifeCycle::InUse => 0x07,
-        }
+        life as u8
     }
 }
 
@@ -78,10 +76,7 @@ impl From<BlockFlag> for u8 {
     ghost from_gives = { λ block byte. byte ≡ block_flag_byte block };
 
     fn from(block: BlockFlag) -> u8 {
-        match block {
-            BlockFlag::Free => 0x00,
-            BlockFlag::Blocked => 0x01,
-        }
+        block as u8
     }
 }
 
@@ -92,17 +87,15 @@ impl Codec<16> for Header {
 
     // None where a byte is no life cycle or no block flag, or a fixed 00 is missing.
     fn decode(page: &[u8; 16]) -> Option<Header> {
-        let life = LifeCycle::try_from(page[0]).ok()?;
-        let block = BlockFlag::try_from(page[1]).ok()?;
-        if !all_zero(&page[5..8]) {
+        let [life, block, algorithm, version, idcenter, 0, 0, 0, ..] = *page else {
             return None;
-        }
+        };
         Some(Header {
-            life,
-            block,
-            algorithm: page[2],
-            version: page[3],
-            idcenter: page[4],
+            life: LifeCycle::try_from(life).ok()?,
+            block: BlockFlag::try_from(block).ok()?,
+            algorithm,
+            version,
+            idcenter,
             idep: part_at(page, 8),
         })
     }

@@ -7,13 +7,13 @@ use memory::Fault;
 #[derive(Clone, Copy, PartialEq, Eq, Debug)]
 pub enum HostRefusal {
     // The memory has under 32 pages.
-    TooFewPages,
+    TooFewPages = 2,
     // The issue record is not 192 bytes, or would not give a card that holds 0 records.
-    WrongRecord,
+    WrongRecord = 3,
     // One of the pages that issue writes is worn.
-    WornPage,
+    WornPage = 4,
     // The pages are not a card.
-    NotACard,
+    NotACard = 5,
 }
 
 impl HostRefusal {
@@ -22,12 +22,7 @@ impl HostRefusal {
     pub fn number(self) -> u8
         ensures { result ≡ host_number self }
     {
-        match self {
-            HostRefusal::TooFewPages => 2,
-            HostRefusal::WrongRecord => 3,
-            HostRefusal::WornPage => 4,
-            HostRefusal::NotACard => 5,
-        }
+        self as u8
     }
 }
 

@@ -2,7 +2,7 @@ ghost use Rattle.std.specs.Prelude.{◌≡◌, ◌∷◌, ◌++◌, replicate};
 ghost use Rattle.card.specs.Bytes.{four};
 ghost use Rattle.card.specs.Purse.{last_byte, last_of, purse_bytes, purse_of, newest_slot};
 
-use crate::bytes::{all_zero, word_at};
+use crate::bytes::word_at;
 use crate::codec::Codec;
 use crate::record::Kind;
 
@@ -51,16 +51,15 @@ impl Codec<16> for Purse {
 
     // None where last is no code, or a fixed 00 is missing.
     fn decode(page: &[u8; 16]) -> Option<Purse> {
-        let last = last_from_byte(page[10])?;
-        if !all_zero(&page[11..16]) {
+        let [.., next, held, last, 0, 0, 0, 0, 0] = *page else {
             return None;
-        }
+        };
         Some(Purse {
             total: word_at(page, 0),
             nt: word_at(page, 4),
-            next: page[8],
-            held: page[9],
-            last,
+            next,
+            held,
+            last: last_from_byte(last)?,
         })
     }
 

@@ -52,6 +52,7 @@ impl Purse {
 
 impl FirstPages {
     // What pages 0, 1 and 2 hold, where they and page 11 keep their rules.
+    // Form: pages by position, as a closure that gives them needs clauses of its own at both callers: without, `page-requires` stays open.
     pub(crate) fn decode(
         zero: [u8; 16],
         one: [u8; 16],
@@ -95,27 +96,13 @@ impl FirstPages {
     }
 }
 
-impl CardView {
-    // The card that the pages of a memory are.
-    // Form: apart from read_card, since in one function the goal `returns-clause-rule` did not close.
-    fn decode<M: Memory>(memory: &M) -> Option<CardView>
-        ensures { result ≡ card_of (M.pages memory.now) }
-    {
-        let pages = CardPages::of(memory)?;
-        let first = FirstPages::decode(
-            pages.page(0),
-            pages.page(1),
-            pages.page(2),
-            pages.page(11),
-        )?;
-        first.with_newest(&pages)
-    }
-}
-
 // What the engine reads of the card that the pages of a memory are; none exactly where they are no card.
+#[tactic(auto, using(crate::proofs::Rules::card_decides, crate::proofs::Rules::read_decides))]
 pub fn read_card<M: Memory>(memory: &M) -> Option<CardView>
     ensures value { result ≡ card_of (M.pages memory.now) }
     ensures rule { Decides (is_some result) (IsCard (M.pages memory.now)) }
 {
-    CardView::decode(memory)
+    let pages = CardPages::of(memory)?;
+    let first = FirstPages::decode(pages.page(0), pages.page(1), pages.page(2), pages.page(11))?;
+    first.with_newest(&pages)
 }

@@ -9,8 +9,8 @@ use crate::codec::Codec;
 // What a record of the log tells of. A repeat has no record.
 #[derive(Clone, Copy, PartialEq, Eq, Debug)]
 pub enum Kind {
-    Ride,
-    Cancel,
+    Ride = 0x20,
+    Cancel = 0x22,
 }
 
 // A record of the log.
@@ -48,10 +48,7 @@ impl From<Kind> for u8 {
     ghost from_gives = { λ kind byte. byte ≡ kind_byte kind };
 
     fn from(kind: Kind) -> u8 {
-        match kind {
-            Kind::Ride => 0x20,
-            Kind::Cancel => 0x22,
-        }
+        kind as u8
     }
 }
 

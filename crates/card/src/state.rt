@@ -2,6 +2,7 @@ ghost use Rattle.std.specs.Prelude.{◌≡◌};
 ghost use Rattle.card.specs.Calls.{at_rest};
 
 // Whether the card's application has been selected by SELECT FILE.
+// An enum and not a flag, so that another application can stand beside the card.
 #[derive(Clone, Copy, PartialEq, Eq, Debug)]
 pub enum Selection {
     Nothing,

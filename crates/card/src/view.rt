@@ -12,6 +12,7 @@ pub struct FirstPages {
 }
 
 // What the engine reads of a card: pages 0, 1 and 2, and the newest record where one is held.
+// Form: the fields of FirstPages again, since a reader of a card names its header and not where it was read.
 #[derive(Clone, Copy, PartialEq, Eq, Debug)]
 pub struct CardView {
     pub header: Header,

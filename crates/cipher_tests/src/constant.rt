@@ -22,10 +22,6 @@ impl Sealer for Constant {
         _key: [u8; 16],
         _message: &mut WorkpadMessage<'_>,
     ) -> Option<[u8; 4]> {
-        if algorithm == self.algorithm {
-            Some(self.seal)
-        } else {
-            None
-        }
+        (algorithm == self.algorithm).then_some(self.seal)
     }
 }

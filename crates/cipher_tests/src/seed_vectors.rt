@@ -1,5 +1,5 @@
 // SEED on published vectors, and on others that OpenSSL 3.0 (seed-ecb) gave.
-use crate::vectors::Vector;
+use crate::vectors::{Vector, all_hold};
 use seed::Seed;
 
 // RFC 4269, appendix B
@@ -45,14 +45,10 @@ const OTHERS: [Vector; 28] = [
 
 #[test]
 fn the_four_vectors_of_rfc_4269_appendix_b(rt: HostRuntime) {
-    for vector in RFC_4269 {
-        assert!(rt; vector.holds_for::<Seed>());
-    }
+    assert!(rt; all_hold::<Seed>(&RFC_4269));
 }
 
 #[test]
 fn vectors_that_openssl_gave(rt: HostRuntime) {
-    for vector in OTHERS {
-        assert!(rt; vector.holds_for::<Seed>());
-    }
+    assert!(rt; all_hold::<Seed>(&OTHERS));
 }

@@ -1,5 +1,5 @@
 // Two-key Triple DES on vectors that OpenSSL 3.0 (des-ede) gave or confirmed. A block is the first 8 of 16 bytes; the others come out as 00.
-use crate::vectors::Vector;
+use crate::vectors::{Vector, all_hold};
 use des::TripleDes;
 
 // The first three rows have equal halves of the key, so they are vectors of single DES. The last two differ in parity bits alone.
@@ -41,7 +41,5 @@ const VECTORS: [Vector; 32] = [
 
 #[test]
 fn vectors_that_openssl_gave(rt: HostRuntime) {
-    for vector in VECTORS {
-        assert!(rt; vector.holds_for::<TripleDes>());
-    }
+    assert!(rt; all_hold::<TripleDes>(&VECTORS));
 }

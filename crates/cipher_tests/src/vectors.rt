@@ -15,3 +15,8 @@ impl Vector {
             == self.result
     }
 }
+
+// Whether the cipher meets all of the vectors.
+pub(crate) fn all_hold<C: Cipher>(vectors: &[Vector]) -> bool {
+    vectors.iter().all(|v| v.holds_for::<C>())
+}

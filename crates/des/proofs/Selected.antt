@@ -40,11 +40,10 @@ selected_lt x n h =
     omega (arith, selected_below x n)
 
 -- one selection more
-pub selected_more : (x i out s b : ℕ) (ts : List (List ℕ)) → out ≡ selected x i → s ≡ entry (get_or ts i []) b → ts ≡ s_tables → b ≡ six_bits x (i + 1)
-    → out * 16 + s ≡ selected x (i + 1)
-selected_more x i out s b ts p q t r =
+pub selected_more : (x i out s b : ℕ) → out ≡ selected x i → b ≡ six_bits x (i + 1) → s ≡ entry (get_or s_tables i []) b → out * 16 + s ≡ selected x (i + 1)
+selected_more x i out s b p r q =
     let e : i ≡ suc i - 1 = omega arith in
     let box : s ≡ s_box (suc i) (six_bits x (suc i)) =
-    q ∙ ap₂ (λ (u : List (List ℕ)) (c : ℕ). entry (get_or u i []) c) t (r ∙ ap (six_bits x) (add-one i))
+    q ∙ ap (entry (get_or s_tables i [])) (r ∙ ap (six_bits x) (add-one i))
     ∙ ap (λ (m : ℕ). entry (get_or s_tables m []) (six_bits x (suc i))) e in
     ap₂ (λ (o y : ℕ). o * 16 + y) p box ∙ ap (selected x) (sym (add-one i))

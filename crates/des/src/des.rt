@@ -14,9 +14,7 @@ fn preoutput(keys: &[u64], x: u64) -> u64
     let mut left = x >> 32;
     let mut right = x % 0x1_0000_0000;
     for key in keys {
-        let next = left ^ cipher_function(right, *key);
-        left = right;
-        right = next;
+        (left, right) = (right, left ^ cipher_function(right, *key));
     }
     right * 0x1_0000_0000 + left
 }

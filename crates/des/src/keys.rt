@@ -24,6 +24,7 @@ pub(crate) fn key_schedule(key: u64) -> [u64; 16]
     let mut c = chosen >> 28;
     let mut d = chosen % 0x1000_0000;
     let mut keys = [0u64; 16];
+    // Form: by index, since of what an adapter of `iter_mut` writes the proof learns nothing (goal `returns`).
     for (n, s) in shifts().iter().enumerate() {
         c = shifted_half(*s, c);
         d = shifted_half(*s, d);

@@ -18,7 +18,7 @@ impl Permutation {
     {
         let mut out = 0u64;
         for entry in self.table {
-            out = out * 2 + (x >> (self.width - *entry as u32)) % 2;
+            out = out * 2 + (x >> (self.width - u32::from(*entry))) % 2;
         }
         out
     }

@@ -1,6 +1,5 @@
 // The tables of FIPS 46-3, in its own rows.
 ghost use Rattle.std.specs.Prelude.{◌≡◌};
-ghost use Rattle.des.specs.Boxes.{s_tables};
 ghost use Rattle.des.specs.Keys.{shifts};
 
 use crate::permutations::Permutation;
@@ -108,6 +107,7 @@ static SHIFTS: [u8; 16] = [
     1, 2, 2, 2, 2, 2, 2, 1,
 ];
 
+// Form: a function, since by the table alone the goal `loop-n-preserved` of `key_schedule` stays open.
 pub(crate) fn shifts() -> &'static [u8; 16]
     ensures { result.now ≡ shifts }
 {
@@ -116,7 +116,7 @@ pub(crate) fn shifts() -> &'static [u8; 16]
 
 // The selection functions S1 to S8, four rows of 16 columns each.
 #[rattlefmt::skip]
-static S: [[u8; 64]; 8] = [
+pub(crate) static S: [[u8; 64]; 8] = [
     // S1
     [
         14,  4, 13,  1,  2, 15, 11,  8,  3, 10,  6, 12,  5,  9,  0,  7,
@@ -174,9 +174,3 @@ static S: [[u8; 64]; 8] = [
          2,  1, 14,  7,  4, 10,  8, 13, 15, 12,  9,  0,  3,  5,  6, 11,
     ],
 ];
-
-pub(crate) fn s_tables() -> &'static [[u8; 64]; 8]
-    ensures { result.now ≡ s_tables }
-{
-    &S
-}

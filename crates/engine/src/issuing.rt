@@ -13,7 +13,7 @@ fn issue_page(source: &[u8; 192], k: usize) -> [u8; 16]
     ensures { result ≡ issue_page source.now k }
 {
     if k < 12 {
-        record_page(source.as_array().unwrap(), k)
+        record_page(source, k)
     } else {
         [0; 16]
     }

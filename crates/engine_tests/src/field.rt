@@ -1,6 +1,6 @@
 // Cards in the field: power-on takes them with their totals, and turns one away where a byte of a judged field is spoiled.
-use crate::states::{challenged, number_of};
-use card::{Kind, State, read_card, sample_record};
+use crate::states::{challenged, numbered};
+use card::{Kind, Limits, Purse, State, read_card, sample_record};
 use engine::power_on;
 use memory::Image;
 use report::describe;
@@ -54,19 +54,14 @@ struct Changed {
     byte: u8,
 }
 
-// The number that power-on answers with one byte replaced; none where the image has no such byte, or the state is not what it then is to be.
-fn number_with(changed: Changed) -> Option<u8> {
+// What power-on answers with one byte replaced, and the state after it; none where the image has no such byte.
+fn powered_with(changed: Changed) -> Option<(Result<(), u8>, State)> {
     let mut bytes = after_eleven_rides();
     *bytes.get_mut(changed.at)? = changed.byte;
     let image = Image::new(&mut bytes);
     let mut state = challenged();
-    let number = number_of(power_on(&image, &mut state));
-    let expected = if number == 0 {
-        State::at_rest()
-    } else {
-        challenged()
-    };
-    (state == expected).then_some(number)
+    let answer = numbered(power_on(&image, &mut state));
+    Some((answer, state))
 }
 
 #[test]
@@ -74,16 +69,26 @@ fn is_taken_with_its_totals(rt: HostRuntime) -> Result<(), Fail> {
     let mut bytes = after_eleven_rides();
     let image = Image::new(&mut bytes);
     let mut state = challenged();
-    assert_eq!(rt; number_of(power_on(&image, &mut state)), 0);
+    assert_eq!(rt; numbered(power_on(&image, &mut state)), Ok(()));
     assert_eq!(rt; state, State::at_rest());
     let card = read_card(&image).ok_or("no card")?;
-    assert_eq!(rt; card.limits.ceiling, 3000);
-    assert_eq!(rt; card.limits.limit, 20000);
-    assert_eq!(rt; card.purse.total, 17600);
-    assert_eq!(rt; card.purse.nt, 13);
-    assert_eq!(rt; card.purse.next, 1);
-    assert_eq!(rt; card.purse.held, 10);
-    assert_eq!(rt; card.purse.last, Some(Kind::Ride));
+    assert_eq!(rt;
+        card.limits,
+        Limits {
+            ceiling: 3000,
+            limit: 20000,
+        }
+    );
+    assert_eq!(rt;
+        card.purse,
+        Purse {
+            total: 17600,
+            nt: 13,
+            next: 1,
+            held: 10,
+            last: Some(Kind::Ride),
+        }
+    );
     let newest = card.newest.ok_or("no newest record")?;
     assert_eq!(rt; newest.nt, 12);
     assert_eq!(rt; newest.amount, 2100);
@@ -164,7 +169,7 @@ fn is_turned_away_where_a_judged_field_is_spoiled(rt: HostRuntime) {
         },
     ];
     for case in spoiled {
-        assert_eq!(rt; number_with(case), Some(5));
+        assert_eq!(rt; powered_with(case), Some((Err(5), challenged())));
     }
 }
 
@@ -198,7 +203,7 @@ fn is_taken_with_another_allowed_byte(rt: HostRuntime) {
         },
     ];
     for case in allowed {
-        assert_eq!(rt; number_with(case), Some(0));
+        assert_eq!(rt; powered_with(case), Some((Ok(()), State::at_rest())));
     }
 }
 
@@ -215,9 +220,9 @@ fn is_taken_after_a_cancel(rt: HostRuntime) {
     bytes[240..256].copy_from_slice(&[1, 0, 0, 0, 7, 0x20, 0x26, 1, 2, 3, 5, 0, 0, 0, 0, 0]);
     let mut state = challenged();
     let image = Image::new(&mut bytes);
-    assert_eq!(rt; number_of(power_on(&image, &mut state)), 0);
+    assert_eq!(rt; numbered(power_on(&image, &mut state)), Ok(()));
     let mut turned = bytes;
     turned[224] = 0x20;
     let other = Image::new(&mut turned);
-    assert_eq!(rt; number_of(power_on(&other, &mut state)), 5);
+    assert_eq!(rt; numbered(power_on(&other, &mut state)), Err(5));
 }

@@ -1,5 +1,5 @@
 // Issue accepted, each of its refusals, and wear.
-use crate::states::{challenged, number_of};
+use crate::states::{challenged, numbered};
 use card::{State, read_card, sample_record};
 use engine::{issue, power_on};
 use memory::{Image, Memory, Wearing};
@@ -12,8 +12,8 @@ fn is_accepted_on_an_image(rt: HostRuntime) -> Result<(), Fail> {
     let mut image = Image::new(&mut bytes);
     let mut state = challenged();
     assert_eq!(rt;
-        number_of(issue(&mut image, &mut state, &sample_record())),
-        0
+        numbered(issue(&mut image, &mut state, &sample_record())),
+        Ok(())
     );
     assert_eq!(rt; state, State::at_rest());
     assert_eq!(rt;
@@ -30,7 +30,7 @@ fn is_accepted_on_an_image(rt: HostRuntime) -> Result<(), Fail> {
     assert_eq!(rt; card.purse.total, 0);
     assert_eq!(rt; card.purse.held, 0);
     assert!(rt; card.newest.is_none());
-    assert_eq!(rt; number_of(power_on(&image, &mut state)), 0);
+    assert_eq!(rt; numbered(power_on(&image, &mut state)), Ok(()));
     // the lender finds the card in its bytes, and those past the last whole page as they were
     assert_eq!(rt; bytes[0], 0x07);
     assert_eq!(rt; bytes[527], 0xA5);
@@ -44,12 +44,12 @@ fn is_refused_by_2_under_32_pages(rt: HostRuntime) -> Result<(), Fail> {
     let mut image = Image::new(&mut bytes);
     let mut state = challenged();
     assert_eq!(rt;
-        number_of(issue(&mut image, &mut state, &sample_record())),
-        2
+        numbered(issue(&mut image, &mut state, &sample_record())),
+        Err(2)
     );
     // an unfit record too: the number of pages decides first
-    assert_eq!(rt; number_of(issue(&mut image, &mut state, &[])), 2);
-    assert_eq!(rt; number_of(power_on(&image, &mut state)), 2);
+    assert_eq!(rt; numbered(issue(&mut image, &mut state, &[])), Err(2));
+    assert_eq!(rt; numbered(power_on(&image, &mut state)), Err(2));
     assert_eq!(rt; state, challenged());
     assert_eq!(rt; image.read(0)?, [0xA5; 16]);
     Ok(())
@@ -71,35 +71,38 @@ fn is_refused_by_3_for_another_record(rt: HostRuntime) -> Result<(), Fail> {
     let mut state = challenged();
     let record = sample_record();
     assert_eq!(rt;
-        number_of(issue(&mut memory, &mut state, &record[0..191])),
-        3
+        numbered(issue(&mut memory, &mut state, &record[0..191])),
+        Err(3)
     );
     let mut longer = [0; 193];
     longer[0..192].copy_from_slice(&record);
-    assert_eq!(rt; number_of(issue(&mut memory, &mut state, &longer)), 3);
+    assert_eq!(rt; numbered(issue(&mut memory, &mut state, &longer)), Err(3));
     // no life cycle, a total of 16,777,216 above the limit, last 01 while nothing is held, a byte of page 11
     assert_eq!(rt;
-        number_of(issue(&mut memory, &mut state, &record_with(0, 0x04))),
-        3
+        numbered(issue(&mut memory, &mut state, &record_with(0, 0x04))),
+        Err(3)
     );
     assert_eq!(rt;
-        number_of(issue(&mut memory, &mut state, &record_with(32, 0x01))),
-        3
+        numbered(issue(&mut memory, &mut state, &record_with(32, 0x01))),
+        Err(3)
     );
     assert_eq!(rt;
-        number_of(issue(&mut memory, &mut state, &record_with(42, 0x01))),
-        3
+        numbered(issue(&mut memory, &mut state, &record_with(42, 0x01))),
+        Err(3)
     );
     assert_eq!(rt;
-        number_of(issue(&mut memory, &mut state, &record_with(176, 0x01))),
-        3
+        numbered(issue(&mut memory, &mut state, &record_with(176, 0x01))),
+        Err(3)
     );
     // a card that holds a record: next 1, held 1, last 01
     let mut holds_one = record;
     holds_one[40] = 1;
     holds_one[41] = 1;
     holds_one[42] = 1;
-    assert_eq!(rt; number_of(issue(&mut memory, &mut state, &holds_one)), 3);
+    assert_eq!(rt;
+        numbered(issue(&mut memory, &mut state, &holds_one)),
+        Err(3)
+    );
     assert_eq!(rt; state, challenged());
     assert_eq!(rt; memory.read(0)?, [0; 16]);
     Ok(())
@@ -112,20 +115,20 @@ fn is_accepted_with_other_allowed_values(rt: HostRuntime) -> Result<(), Fail> {
     let mut image = Image::new(&mut bytes);
     let mut state = challenged();
     assert_eq!(rt;
-        number_of(issue(&mut image, &mut state, &record_with(0, 0x03))),
-        0
+        numbered(issue(&mut image, &mut state, &record_with(0, 0x03))),
+        Ok(())
     );
     assert_eq!(rt;
-        number_of(issue(&mut image, &mut state, &record_with(1, 0x01))),
-        0
+        numbered(issue(&mut image, &mut state, &record_with(1, 0x01))),
+        Ok(())
     );
     assert_eq!(rt;
-        number_of(issue(&mut image, &mut state, &record_with(34, 0x01))),
-        0
+        numbered(issue(&mut image, &mut state, &record_with(34, 0x01))),
+        Ok(())
     );
     assert_eq!(rt;
-        number_of(issue(&mut image, &mut state, &record_with(39, 0xFF))),
-        0
+        numbered(issue(&mut image, &mut state, &record_with(39, 0xFF))),
+        Ok(())
     );
     let card = read_card(&image).ok_or("no card")?;
     assert_eq!(rt; card.purse.nt, 255);
@@ -139,13 +142,13 @@ fn is_refused_by_4_at_a_worn_page(rt: HostRuntime) -> Result<(), Fail> {
     let mut memory = Wearing::new(left);
     let mut state = challenged();
     assert_eq!(rt;
-        number_of(issue(&mut memory, &mut state, &sample_record())),
-        4
+        numbered(issue(&mut memory, &mut state, &sample_record())),
+        Err(4)
     );
     assert_eq!(rt; state, challenged());
     assert_eq!(rt; memory.read(0)?, [0; 16]);
     assert_eq!(rt; memory.is_worn(0)?, false);
-    assert_eq!(rt; number_of(power_on(&memory, &mut state)), 5);
+    assert_eq!(rt; numbered(power_on(&memory, &mut state)), Err(5));
     assert_eq!(rt; state, challenged());
     Ok(())
 }
@@ -158,17 +161,17 @@ fn wears_each_page_once(rt: HostRuntime) -> Result<(), Fail> {
     let mut memory = Wearing::new(left);
     let mut state = challenged();
     assert_eq!(rt;
-        number_of(issue(&mut memory, &mut state, &sample_record())),
-        0
+        numbered(issue(&mut memory, &mut state, &sample_record())),
+        Ok(())
     );
     for page in 0..33 {
         assert_eq!(rt; memory.is_worn(page)?, true);
     }
     assert_eq!(rt; memory.is_worn(33)?, false);
-    assert_eq!(rt; number_of(power_on(&memory, &mut state)), 0);
+    assert_eq!(rt; numbered(power_on(&memory, &mut state)), Ok(()));
     assert_eq!(rt;
-        number_of(issue(&mut memory, &mut state, &sample_record())),
-        4
+        numbered(issue(&mut memory, &mut state, &sample_record())),
+        Err(4)
     );
     assert_eq!(rt; memory.read(6)?, [1; 16]);
     Ok(())

@@ -1,12 +1,9 @@
 // What the tests share.
 use card::{HostRefusal, Selection, Session, State};
 
-// The number of an answer, 0 where the call was accepted.
-pub(crate) fn number_of(answer: Result<(), HostRefusal>) -> u8 {
-    match answer {
-        Ok(()) => 0,
-        Err(refusal) => refusal.number(),
-    }
+// An answer with the number of its refusal.
+pub(crate) fn numbered(answer: Result<(), HostRefusal>) -> Result<(), u8> {
+    answer.map_err(HostRefusal::number)
 }
 
 // A state that an accepted call ends and a refused one keeps.

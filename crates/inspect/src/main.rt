@@ -3,8 +3,20 @@
 // Issues the sample card onto three memories, powers it on where it was taken, and tells what took place.
 use card::{State, sample_record};
 use engine::{issue, power_on};
-use memory::{Image, Wearing};
+use memory::{Image, Memory, Wearing};
 use report::{describe, outcome};
+
+// Issues the sample card onto a memory, and tells what came of it.
+fn show_issue<M: Memory>(
+    rt: &HostRuntime,
+    call: &str,
+    memory: &mut M,
+    state: &mut State,
+) -> anyhow::Result<()> {
+    let issued = issue(memory, state, &sample_record());
+    rt.println(outcome(rt.alloc(), call, issued)?)?;
+    Ok(())
+}
 
 // Onto an image of 32 pages: the card is issued, powered on and shown.
 fn show_card(rt: &HostRuntime) -> anyhow::Result<()> {
@@ -12,8 +24,12 @@ fn show_card(rt: &HostRuntime) -> anyhow::Result<()> {
     let mut bytes = [0; 512];
     let mut image = Image::new(&mut bytes);
     let mut state = State::at_rest();
-    let issued = issue(&mut image, &mut state, &sample_record());
-    rt.println(outcome(heap, "issue onto an image of 32 pages", issued)?)?;
+    show_issue(
+        rt,
+        "issue onto an image of 32 pages",
+        &mut image,
+        &mut state,
+    )?;
     let powered = power_on(&image, &mut state);
     rt.println(outcome(heap, "power-on", powered)?)?;
     if let Some(text) = describe(heap, &image)? {
@@ -26,25 +42,23 @@ fn show_card(rt: &HostRuntime) -> anyhow::Result<()> {
 fn show_worn(rt: &HostRuntime) -> anyhow::Result<()> {
     let mut left = [65535; 64];
     left[7] = 0;
-    let mut memory = Wearing::new(left);
-    let mut state = State::at_rest();
-    let issued = issue(&mut memory, &mut state, &sample_record());
-    rt.println(outcome(
-        rt.alloc(),
+    show_issue(
+        rt,
         "issue onto a wearing memory whose page 7 is worn",
-        issued,
-    )?)?;
-    Ok(())
+        &mut Wearing::new(left),
+        &mut State::at_rest(),
+    )
 }
 
 // Onto an image that is one page short.
 fn show_short(rt: &HostRuntime) -> anyhow::Result<()> {
     let mut bytes = [0; 496];
-    let mut image = Image::new(&mut bytes);
-    let mut state = State::at_rest();
-    let issued = issue(&mut image, &mut state, &sample_record());
-    rt.println(outcome(rt.alloc(), "issue onto an image of 31 pages", issued)?)?;
-    Ok(())
+    show_issue(
+        rt,
+        "issue onto an image of 31 pages",
+        &mut Image::new(&mut bytes),
+        &mut State::at_rest(),
+    )
 }
 
 fn main(rt: HostRuntime) -> anyhow::Result<()> {

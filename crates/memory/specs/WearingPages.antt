@@ -1,6 +1,7 @@
 -- A memory of 64 pages, each with a count of writes left.
 use Rattle.std.specs.Prelude.{◌≡◌, ℕ, ◌-◌, ◌<◌, Bool, List, [], ◌∷◌, map, length, ◌==◌, slice_index, slice_index_or, slice_set}
-use Rattle.std.proofs.Common.{zero, suc, arith}
+use Rattle.std.proofs.Common.{zero, suc, ◌∙◌, arith}
+use Rattle.std.proofs.lemmas.List.{length-map}
 use Rattle.memory.specs.declared.wearing_page.WearingPage.{WearingPage}
 use Rattle.memory.specs.Pages.{Outside}
 
@@ -25,7 +26,13 @@ abbrev pub none_outside : Outside
 none_outside = record { lenders = []; rest = [] }
 
 -- every page has 16 bytes
-pub all_sixteen : (pages : List WearingPage) (k : ℕ) → k < length (bytes_of pages) → length (slice_index_or (bytes_of pages) k []) ≡ 16
-all_sixteen [] k h = absurd (omega arith)
-all_sixteen (p ∷ ps) zero h = p.sized
-all_sixteen (p ∷ ps) (suc k) h = all_sixteen ps k (omega arith)
+pub all_sixteen : (pages : List (List ℕ)) → length pages ≡ 64 → ((k : ℕ) → k < 64 → length (slice_index_or pages k []) ≡ 16) → (k : ℕ) → k < length pages → length (slice_index_or pages k []) ≡ 16
+all_sixteen pages long each k h = each k (omega arith)
+
+each_sixteen : (pages : List WearingPage) (k : ℕ) → k < length pages → length (slice_index_or (bytes_of pages) k []) ≡ 16
+each_sixteen [] k h = absurd (omega arith)
+each_sixteen (p ∷ ps) zero h = p.sized
+each_sixteen (p ∷ ps) (suc k) h = each_sixteen ps k (omega arith)
+
+pub wearing_sixteen : (pages : List WearingPage) → length pages ≡ 64 → (k : ℕ) → k < length (bytes_of pages) → length (slice_index_or (bytes_of pages) k []) ≡ 16
+wearing_sixteen pages long = all_sixteen (bytes_of pages) (length-map pages (λ p. p.bytes) ∙ long) (λ k h. each_sixteen pages k (omega (arith, long)))

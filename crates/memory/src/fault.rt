@@ -5,9 +5,9 @@ ghost use Rattle.memory.specs.Faults.{fault_number};
 #[derive(Clone, Copy, PartialEq, Eq, Debug)]
 pub enum Fault {
     // The memory has no page of this number.
-    PastEnd,
+    PastEnd = 1,
     // The page is worn: it can be read, and no longer written.
-    Worn,
+    Worn = 2,
 }
 
 impl Fault {
@@ -16,9 +16,6 @@ impl Fault {
     pub fn number(self) -> u8
         ensures { result ≡ fault_number self }
     {
-        match self {
-            Fault::PastEnd => 1,
-            Fault::Worn => 2,
-        }
+        self as u8
     }
 }

@@ -27,7 +27,7 @@ impl<'a> Image<'a> {
         self.bytes.as_chunks().0
     }
 
-    // Where a page begins among the bytes, and so what a read and a write of 16 bytes there come to.
+    // Where a page begins among the bytes, and so what a write of 16 bytes there comes to.
     fn start(&self, page: usize) -> usize
         requires { page < length (pages_of self.now.bytes.now) }
         ensures { PageStart self.now.bytes.now page result }

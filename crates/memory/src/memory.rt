@@ -27,6 +27,8 @@ pub trait Memory {
         ensures { result ≡ mark_answer (length (pages self.now)) (worn self.now) page };
 
     // Puts the bytes into an open page, which may then be worn, and changes nothing else. A worn page is refused, and nothing changes.
+    // Form: page and bytes stay two parameters, as a memory is told them; PageWrite is an entry of a plan.
+    // Form: the clause `refused` is said again by whoever writes: a name for it would say no more than its words.
     fn write(&mut self, page: usize, bytes: [u8; 16]) -> Result<(), Fault>
         ensures written { Written (pages self.old) (worn self.old) page bytes result (pages self.new) (worn self.new) }
         ensures outside { outside self.new ≡ outside self.old }

@@ -1,6 +1,6 @@
 ghost use Rattle.std.specs.Prelude.{◌≡◌, ◌<◌, false, [], length, replicate, is_ok, if◌then◌else◌};
 ghost use Rattle.memory.specs.Pages.{Written};
-ghost use Rattle.memory.specs.WearingPages.{bytes_of, left_of, spent, one_less, none_outside, all_sixteen};
+ghost use Rattle.memory.specs.WearingPages.{bytes_of, left_of, spent, one_less, none_outside, wearing_sixteen};
 
 use crate::fault::Fault;
 use crate::memory::Memory;
@@ -67,5 +67,5 @@ impl Memory for Wearing {
         Ok(())
     }
 
-    ghost sixteen = { λ m. all_sixteen m.pages };
+    ghost sixteen = { λ m. wearing_sixteen m.pages m.paged };
 }

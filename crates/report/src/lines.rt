@@ -1,10 +1,10 @@
-ghost use Rattle.std.specs.Prelude.{◌≡◌, ◌≤◌, length, IfOk, Some, string_bytes};
+ghost use Rattle.std.specs.Prelude.{◌≡◌, IfOk, Some, string_bytes};
 ghost use Rattle.std.specs.Option.{option_map};
 ghost use Rattle.report.specs.Words.{algorithm_words};
 ghost use Rattle.report.specs.Lines.{outcome_line, identity_lines, sealing_lines, limits_lines, purse_lines, file_lines, log_line, card_lines, files_of, description};
 ghost use Rattle.report.specs.Keys.{KeysNotShown};
 
-use card::{CardView, Header, HostRefusal, Limits, Purse, Record, page_at, read_card};
+use card::{CardPages, CardView, Header, HostRefusal, Limits, Purse, Record, read_card};
 use memory::Memory;
 use std::alloc::{AllocError, Global};
 use std::fmt;
@@ -28,6 +28,7 @@ pub fn outcome(
 }
 
 // The algorithm of a card's seals, by its byte.
+// Form: a number, since a card may hold any byte here and a host may have any registered.
 #[derive(Drop)]
 struct Algorithm(u8);
 
@@ -120,14 +121,13 @@ struct Files {
 
 impl Files {
     // Pages 3, 4 and 5.
-    fn of<M: Memory>(memory: &M) -> Files
-        requires { 32 ≤ length (M.pages memory.now) }
-        ensures { result ≡ files_of (M.pages memory.now) }
+    fn of<M: Memory>(pages: &CardPages<M>) -> Files
+        ensures { result ≡ files_of (M.pages pages.now.memory.now) }
     {
         Files {
-            file_12: page_at(memory, 3),
-            file_13: page_at(memory, 4),
-            file_14: page_at(memory, 5),
+            file_12: pages.page(3),
+            file_13: pages.page(4),
+            file_14: pages.page(5),
         }
     }
 }
@@ -206,7 +206,7 @@ pub fn describe<M: Memory>(heap: Global, memory: &M) -> Result<Option<String>, A
     };
     let lines = CardLines {
         card: &card,
-        files: Files::of(memory),
+        files: Files::of(&CardPages::of(memory).unwrap()),
     };
     let text = lines.to_string(heap)?;
     Ok(Some(text))

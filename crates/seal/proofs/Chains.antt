@@ -77,13 +77,10 @@ chain_end e b text size rest block c h =
 pub ruleset chain_steps = (chain_start, chain_more, chain_end)
 
 -- all blocks of the padded message
-pub chain_padded : (e : List ℕ → List ℕ) (b size : ℕ) (m text block : List ℕ) → BlockSize b → size ≡ b → block ≡ chained e b text (length text / b) → text ≡ padded size m
-    → block ≡ last_result e b m
-chain_padded e b size m text block s w z t =
+pub chain_padded : (e : List ℕ → List ℕ) (b : ℕ) (m : List ℕ) → BlockSize b → chained e b (padded b m) (length (padded b m) / b) ≡ last_result e b m
+chain_padded e b m s =
     let pos = at_least_one b s in
-    let p : text ≡ padded b m = t ∙ ap (λ k. padded k m) w in
-    z ∙ ap (λ x. chained e b x (length x / b)) p
-    ∙ ap (chained e b (padded b m)) (ap (λ n. n / b) (length-padded b m pos) ∙ mul-div_cancel (blocks b (length m)) pos)
+    ap (chained e b (padded b m)) (ap (λ n. n / b) (length-padded b m pos) ∙ mul-div_cancel (blocks b (length m)) pos)
 
 -- zeros with p XORed in: p, and zeros behind it
 xor_zeros : (n : ℕ) (p : List ℕ) → length p ≤ n → xored (replicate n 0) p ≡ p ++ replicate (n - length p) 0

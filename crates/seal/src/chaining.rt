@@ -13,6 +13,7 @@ fn xor_in(mut block: [u8; 16], part: &[u8]) -> [u8; 16]
     requires { length part.now ≤ 16 }
     ensures { result ≡ xored block part.now }
 {
+    // Form: by index, since of what an adapter of `iter_mut` writes the proof learns nothing (`returns`).
     for (i, byte) in part.iter().enumerate() {
         block[i] ^= *byte;
     }
@@ -32,7 +33,7 @@ fn chain<C: Cipher>(key: [u8; 16], text: &[u8]) -> [u8; 16]
 }
 
 // The last result for a message on a workpad; it is padded there.
-#[tactic(auto, using(crate::proofs::Padded::at_most_16, crate::proofs::Padded::at_most_one_more))]
+#[tactic(auto, using(crate::proofs::Padded::at_most_16, crate::proofs::Padded::at_most_one_more, crate::proofs::Chains::chain_padded))]
 pub(crate) fn last_result<C: Cipher>(key: [u8; 16], message: &mut WorkpadMessage<'_>) -> [u8; 16]
     ensures value { result ≡ last_result (C.enciphered key) C.BLOCK (message_bytes message.old) }
     ensures workpad { WorkpadBecomes message.old message.new (padded_workpad C.BLOCK message.old.workpad.now message.old.len) }

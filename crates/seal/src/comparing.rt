@@ -11,7 +11,7 @@ pub fn same_seal(a: [u8; 4], b: [u8; 4]) -> bool
 }
 
 // One comparison of the two numbers that the bytes are, and not byte by byte: the steps are to be the same whatever the bytes are.
-// Form: a function of its own, since its fact needs no proof file; written in `same_seal`, the goal `returns` stays open without one.
+// Form: apart from `same_seal`: in one function `using` the lemma that ties numbers and bytes leaves the goal `returns` to a proof file.
 fn same_number(a: [u8; 4], b: [u8; 4]) -> bool
     ensures { result ≡ (number_of a == number_of b) }
 {

@@ -20,6 +20,7 @@ pub enum SealRefusal {
 
 // The seal of a message, worked out on the lent workpad. A workpad that is too small is left as it was; any other is all zero afterwards.
 // The clauses after the first two are laws of the definitions: of the padding, and of the chaining of a short message.
+// Form: a host's inputs stay apart: a struct of algorithm, key and message would borrow what its caller owns, and be taken apart here at once.
 #[tactic(auto, using(crate::proofs::Padded::padding_rule, crate::proofs::Padded::padding_table, crate::proofs::Chains::short_messages))]
 pub fn seal_message<S: Sealer>(
     sealer: &S,

@@ -22,10 +22,10 @@ impl fmt::Display for LineRefusal {
     ghost output = { λ r. Some (refusal_words r) };
 
     fn fmt<W: fmt::Write>(&self, f: &mut fmt::Formatter<W>) -> fmt::Result {
-        match self {
-            LineRefusal::NotRegistered => write!(f, "not registered"),
-            LineRefusal::Form => write!(f, "form"),
-        }
+        f.write_str(match self {
+            LineRefusal::NotRegistered => "not registered",
+            LineRefusal::Form => "form",
+        })
     }
 }
 
@@ -38,8 +38,8 @@ impl fmt::Display for Printed {
 
     fn fmt<W: fmt::Write>(&self, f: &mut fmt::Formatter<W>) -> fmt::Result {
         match &self.0 {
-            Ok(seal) => write!(f, "{}", Hex(seal)),
-            Err(refusal) => write!(f, "{refusal}"),
+            Ok(seal) => fmt::Display::fmt(&Hex(seal), f),
+            Err(refusal) => fmt::Display::fmt(refusal, f),
         }
     }
 }

@@ -11,6 +11,7 @@ use seal::{Pair, SealRefusal, Single, seal_message};
 use seed::Seed;
 
 // The algorithm byte of SEED.
+// Form: numbers and not an enum, since a host's own sealer may have any algorithm byte registered.
 const SEED: u8 = 0x00;
 
 // The algorithm byte of two-key Triple DES.
@@ -34,6 +35,7 @@ pub fn card_sealer() -> Pair<Single<Seed>, Single<TripleDes>>
 }
 
 // The seal of a message by the card's sealer, worked out on the lent workpad. The last clause says that the examples of docs/SEALS.md hold.
+// Form: a host's inputs stay apart: a struct of algorithm, key and message would borrow what its caller owns, and be taken apart here at once.
 #[tactic(auto, using(crate::proofs::Examples::examples_hold))]
 pub fn card_seal(
     algorithm: u8,

@@ -1,6 +1,6 @@
 // The extended S-boxes SS0 to SS3.
 ghost use Rattle.std.specs.Prelude.{◌≡◌, ◌<◌};
-ghost use Rattle.seed.specs.Function.{ss, extended_boxes};
+ghost use Rattle.seed.specs.Function.{ss};
 
 #[rattlefmt::skip]
 static SS: [[u32; 256]; 4] = [
@@ -146,19 +146,11 @@ static SS: [[u32; 256]; 4] = [
     ],
 ];
 
-// The tables, in the order of their numbers.
-#[tactic(auto, unfolding(crate::specs::Function::extended_boxes))]
-fn extended_boxes() -> &'static [[u32; 256]; 4]
-    ensures { result.now ≡ extended_boxes }
-{
-    &SS
-}
-
 // SSn of a byte.
-#[tactic(auto, using(crate::proofs::Rule::ss_entry))]
+#[tactic(auto, using(crate::proofs::Rule::ss_entry), unfolding(crate::specs::Function::extended_boxes))]
 pub(crate) fn ss(n: usize, x: u8) -> u32
     requires { n < 4 }
     ensures { result ≡ ss n x }
 {
-    extended_boxes()[n][x as usize]
+    SS[n][usize::from(x)]
 }

@@ -11,5 +11,5 @@ pub(crate) fn split(x: u64) -> (u32, u32)
 pub(crate) fn join(high: u32, low: u32) -> u64
     ensures { result ≡ high * 2 ^ 32 + low }
 {
-    high as u64 * 0x1_0000_0000 + low as u64
+    u64::from(high) * 0x1_0000_0000 + u64::from(low)
 }

@@ -1,8 +1,9 @@
 -- What the answer of `read_hex` says of the text and the buffer.
-use Rattle.std.proofs.Common.{◌≡◌, ℕ, ◌+◌, ◌*◌, ◌/◌, ◌<◌, ◌≤◌, cond, false, ltb, eqb, List, [], ◌∷◌, ◌++◌, length, take, drop, Some, None, Option, sym, refl, ap, ◌∙◌, inl, inr, arith}
+use Rattle.std.proofs.Common.{◌≡◌, ℕ, ◌+◌, ◌*◌, ◌/◌, ◌<◌, ◌≤◌, cond, ltb, eqb, List, [], ◌∷◌, ◌++◌, length, take, drop, Some, None, Option, sym, refl, ap, ◌∙◌, inl, inr, arith}
+use Rattle.std.specs.Bool.{then_some}
 use Rattle.std.specs.Option.{option_map}
 use Rattle.std.proofs.lemmas.List.{take_at, take_all}
-use Rattle.std.proofs.lemmas.Bool.{cases_lt, eq-eqb, ne_eqb, eqb-false, lt-ltb, le-ltb, cond-true, cond-false}
+use Rattle.std.proofs.lemmas.Bool.{cases_lt, cases_Bool, eq-eqb, ne_eqb, eqb-true, eqb-false, lt-ltb, le-ltb, cond-true, cond-false}
 use Rattle.text.specs.Hex.{bytes_of_hex, leading_bytes, leading_from, hex_byte, byte_then, overlaid}
 
 then_whole : (o : Option ℕ) (p : Option (List ℕ)) (lead bytes : List ℕ) → ((bs : List ℕ) → p ≡ Some bs → lead ≡ bs) → byte_then o p ≡ Some bytes
@@ -74,21 +75,20 @@ module _ (text was : List ℕ) where
     | inr h ↦ (let f = fit None (option_map length (bytes_of_hex text)) h in let m = ap (λ o. option_map length o) e in let z : ◌≡◌ {A = ℕ} 0 1 = cc in absurd (omega arith))
   ]
 
--- an array of k bytes that is filled to its end
-pub array_read : (text now was : List ℕ) (n k : ℕ) → length was ≡ k → length now ≡ k
+-- an array of k bytes: all of it, where it is filled to its end
+pub array_answer : (text now was : List ℕ) (n k : ℕ) → length was ≡ k → length now ≡ k
     → Some n ≡ cond (ltb (length was) (length text / 2)) None (option_map length (bytes_of_hex text))
     → now ≡ cond (ltb (length was) (length text / 2)) was (overlaid (leading_bytes text) was)
-    → n ≡ k → Some now ≡ cond (eqb (length text) (2 * k)) (bytes_of_hex text) None
-array_read text now was n k room same some is e =
+    → then_some (eqb n k) now ≡ cond (eqb (length text) (2 * k)) (bytes_of_hex text) None
+array_answer text now was n k room same some is =
     let r = read_some text was now n some is in
-    let all : take n now ≡ now = take_all n now (omega arith) in
-    sym (cond-true (eqb (length text) (2 * k)) (bytes_of_hex text) None (eq-eqb (length text) (2 * k) (omega (arith, r.1))) ∙ r.0 ∙ ap (λ x. Some x) all)
-
--- one that is not
-pub array_short : (text now was : List ℕ) (n k : ℕ) → length was ≡ k
-    → Some n ≡ cond (ltb (length was) (length text / 2)) None (option_map length (bytes_of_hex text))
-    → now ≡ cond (ltb (length was) (length text / 2)) was (overlaid (leading_bytes text) was)
-    → eqb n k ≡ false → None ≡ cond (eqb (length text) (2 * k)) (bytes_of_hex text) None
-array_short text now was n k room some is ne =
-    let r = read_some text was now n some is in
-    sym (cond-false (eqb (length text) (2 * k)) (bytes_of_hex text) None (ne_eqb (length text) (2 * k) (λ e. eqb-false n k ne (omega (arith, r.1)))))
+    elim (cases_Bool (eqb n k)) [
+      | inl t ↦ (
+          let e = eqb-true n k t in
+          let all : take n now ≡ now = take_all n now (omega arith) in
+          let full = eq-eqb (length text) (2 * k) (omega (arith, r.1)) in
+          rw t (sym (cond-true (eqb (length text) (2 * k)) (bytes_of_hex text) None full ∙ r.0 ∙ ap (λ x. Some x) all)))
+      | inr f ↦ (
+          let short = ne_eqb (length text) (2 * k) (λ e. eqb-false n k f (omega (arith, r.1))) in
+          rw f (sym (cond-false (eqb (length text) (2 * k)) (bytes_of_hex text) None short)))
+    ]

@@ -1,7 +1,9 @@
 -- Reading pairs of hexadecimal digits, one after another.
-use Rattle.std.proofs.Common.{◌≡◌, ℕ, zero, suc, ◌+◌, ◌*◌, ◌/◌, ◌<◌, ◌≤◌, List, [], ◌∷◌, ◌++◌, length, get_or, take, drop, set, Some, None, Option, sym, refl, ap, ap₂, ◌∙◌, arith}
+use Rattle.std.proofs.Common.{◌≡◌, ℕ, zero, suc, ◌+◌, ◌*◌, ◌/◌, ◌<◌, ◌≤◌, false, eqb, List, [], ◌∷◌, ◌++◌, length, get_or, take, drop, set, Some, None, Option, sym, refl, ap, ap₂, ◌∙◌, arith}
+use Rattle.std.specs.Bool.{then_some}
 use Rattle.std.specs.Option.{option_map}
 use Rattle.std.specs.Simd.{first_chunks}
+use Rattle.std.proofs.lemmas.Bool.{ne_eqb}
 use Rattle.std.proofs.lemmas.List.{append_assoc, append-nil, get_or-take, get_or-drop, length-take-le, length-drop, take_more_set, drop-set-lt, drop-drop, drop_more, drop_all, take-append-drop}
 use Rattle.text.specs.Hex.{bytes_of_hex, leading_bytes, leading_from, hex_byte, byte_then, overlaid}
 
@@ -124,16 +126,24 @@ module _ (text : List ℕ) (n : ℕ) (was buffer : List ℕ) (r : Reading text n
   ended h e = stands (leading_bytes text) buffer was n h (r.leading ∙ ap (λ x. take n buffer ++ x) e ∙ append-nil (take n buffer)) r.behind
 
   -- at one digit that is left over
-  pub stops_odd : n ≤ length buffer → length text ≡ 2 * n + 1 → (None ≡ option_map length (bytes_of_hex text)) × (buffer ≡ overlaid (leading_bytes text) was)
+  stops_odd : n ≤ length buffer → length text ≡ 2 * n + 1 → (None ≡ option_map length (bytes_of_hex text)) × (buffer ≡ overlaid (leading_bytes text) was)
   stops_odd h one =
       let e = odd (drop (2 * n) text) (rw length-drop (omega arith)) in
       (sym (ap (λ o. option_map length o) (r.whole ∙ ap (joined (take n buffer)) e.0)), ended h e.1)
 
   -- where nothing is left
-  pub done : n ≤ length buffer → length text ≡ 2 * n → (Some n ≡ option_map length (bytes_of_hex text)) × (buffer ≡ overlaid (leading_bytes text) was)
+  done : n ≤ length buffer → length text ≡ 2 * n → (Some n ≡ option_map length (bytes_of_hex text)) × (buffer ≡ overlaid (leading_bytes text) was)
   done h none =
       let e : drop (2 * n) text ≡ [] = drop_all (2 * n) text (omega arith) in
       let l : length (take n buffer) ≡ n = length-take-le n buffer h in
       let w : bytes_of_hex text ≡ Some (take n buffer) =
       r.whole ∙ ap (joined (take n buffer)) (ap bytes_of_hex e ∙ none_left.0) ∙ ap (λ x. Some x) (append-nil (take n buffer)) in
       (sym (ap (λ o. option_map length o) w ∙ ap (λ k. Some k) l), ended h (ap leading_bytes e ∙ none_left.1))
+
+  -- after the last pair, with so many digits left over
+  pub finished : (left : ℕ) → n ≤ length buffer → length text ≡ 2 * n + left → left < 2
+      → (then_some (eqb left 0) n ≡ option_map length (bytes_of_hex text)) × (buffer ≡ overlaid (leading_bytes text) was)
+  finished zero h l s = done h (omega arith)
+  finished (suc k) h l s =
+      let some : eqb (suc k) 0 ≡ false = ne_eqb (suc k) 0 (λ e. omega arith) in
+      rw some (stops_odd h (omega arith))

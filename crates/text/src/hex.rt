@@ -71,22 +71,19 @@ fn read_pairs(text: &[u8], bytes: &mut [u8]) -> Option<usize>
     ensures read_written { ReadWritten }
 {
     let (pairs, left) = text.as_chunks::<2>();
+    // Form: by index, since of what an adapter of `iter_mut` writes the proof learns nothing (`returns-clause-bytes`).
     for (i, pair) in pairs.iter().enumerate() {
         bytes[i] = hex_byte(pair[0], pair[1])?;
     }
-    if left.is_empty() {
-        Some(pairs.len())
-    } else {
-        None
-    }
+    left.is_empty().then_some(pairs.len())
 }
 
 // The N bytes that a text of 2 N digits writes; none where it has another form.
-#[tactic(auto, using(crate::proofs::HexReads::array_read, crate::proofs::HexReads::array_short))]
+#[tactic(auto, using(crate::proofs::HexReads::array_answer))]
 pub fn hex_array<const N: usize>(text: &[u8]) -> Option<[u8; N]>
     ensures { result ≡ (if length text.now == 2 * N then bytes_of_hex text.now else None) }
 {
     let mut bytes = [0; N];
     let count = read_hex(text, &mut bytes)?;
-    if count == N { Some(bytes) } else { None }
+    (count == N).then_some(bytes)
 }

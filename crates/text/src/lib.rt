@@ -6,6 +6,8 @@
 // `split_line` gives the first line of a text, and `Lines` all of them, one after another.
 mod hex;
 mod lines;
+#[cfg(test)]
+mod tests;
 
 pub use hex::{Hex, hex_array, hex_byte, hex_text, read_hex};
 pub use lines::{Lines, split_line};

@@ -28,10 +28,10 @@ pub fn split_line(text: &[u8]) -> Option<(&[u8], &[u8])>
     if text.is_empty() {
         return None;
     }
-    match line_end(text) {
-        Some(end) => Some(around(text, end)),
-        None => Some((text, &[])),
-    }
+    let Some(end) = line_end(text) else {
+        return Some((text, &[]));
+    };
+    Some(around(text, end))
 }
 
 // The lines of a text, one after another.

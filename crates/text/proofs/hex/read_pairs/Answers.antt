@@ -1,5 +1,5 @@
-use Rattle.std.proofs.Common.{◌≡◌, length, Some, ap, ◌∙◌, rules}
-use Rattle.text.proofs.Hexes.{byte_at, more, stops, stops_odd, done}
+use Rattle.std.proofs.Common.{◌≡◌, length, ◌∙◌, rules}
+use Rattle.text.proofs.Hexes.{byte_at, more, stops, finished}
 use Rattle.text.proofs.hex.read_pairs.Goals as goal
 
 pub returns-in_err-bytes-clause-count : goal.returns-in_err-bytes-clause-count
@@ -17,16 +17,12 @@ loop-i-preserved c =
     let byte = c.in_ok-bytes.ensures ∙ byte_at _ _ _ _ c.as_chunks.ensures.front (search rules) in
     more _ _ _ _ c.loop-i.invariant _ (search rules) byte (search rules)
 
-pub returns-then-is_empty-clause-count : goal.returns-then-is_empty-clause-count
-returns-then-is_empty-clause-count c =
+pub returns-clause-count : goal.returns-clause-count
+returns-clause-count c =
+    let left = length c.as_chunks.result.1.now in
     let all : length c.as_chunks.result.0.now ≡ c.loop-i.i = search rules in
-    ap Some all ∙ (done _ _ _ _ c.loop-i.invariant (search rules) (search rules)).0
+    let last = (finished _ _ _ _ c.loop-i.invariant left (search rules) (search rules) (search rules)).0 in
+    c.then_some.ensures ∙ rw (c.is_empty.ensures, all) last
 
-pub returns-then-is_empty-clause-bytes : goal.returns-then-is_empty-clause-bytes
-returns-then-is_empty-clause-bytes c = (done _ _ _ _ c.loop-i.invariant (search rules) (search rules)).1
-
-pub returns-else-is_empty-clause-count : goal.returns-else-is_empty-clause-count
-returns-else-is_empty-clause-count c = (stops_odd _ _ _ _ c.loop-i.invariant (search rules) (search rules)).0
-
-pub returns-else-is_empty-clause-bytes : goal.returns-else-is_empty-clause-bytes
-returns-else-is_empty-clause-bytes c = (stops_odd _ _ _ _ c.loop-i.invariant (search rules) (search rules)).1
+pub returns-clause-bytes : goal.returns-clause-bytes
+returns-clause-bytes c = (finished _ _ _ _ c.loop-i.invariant (length c.as_chunks.result.1.now) (search rules) (search rules) (search rules)).1
