@@ -4,7 +4,7 @@ use Rattle.std.specs.List.{range_with_len}
 use Rattle.std.proofs.lemmas.List.FromFn.{get_or-map-range_with_len}
 use Rattle.seed.specs.Boxes.{s1_table, s2_table}
 use Rattle.seed.specs.Field.{s1_rule, s2_rule, BoxesByRule}
-use Rattle.seed.specs.Function.{ss, extended_boxes}
+use Rattle.seed.specs.Function.{ss}
 use Rattle.seed.specs.Keys.{kc_table, rotated_left, ConstantsByRotation}
 
 -- the table of a rule gives at each place what the rule says
@@ -24,6 +24,10 @@ boxes_by_rule x h = (entry s1_rule s1_table 256 s1_table_is x h, entry s2_rule s
 
 pub constants_by_rotation : ConstantsByRotation
 constants_by_rotation = entry (λ i. rotated_left 32 i 0x9e3779b9) kc_table 16 refl
+
+-- the tables of the extended S-boxes, in this order, with an entry for each byte
+unfoldable pub extended_boxes : List (List ℕ)
+extended_boxes = map (λ n. map (ss n) (range_with_len 0 256)) (range_with_len 0 4)
 
 pub ss_entry : (n x : ℕ) → n < 4 → x < 256 → get_or (get_or extended_boxes n []) x 0 ≡ ss n x
 unfolding extended_boxes

@@ -1,6 +1,5 @@
 -- The functions G and F (RFC 4269), on words of 32 bits.
-use Rattle.std.specs.Prelude.{◌≡◌, ℕ, zero, suc, ◌+◌, ◌-◌, ◌*◌, ◌/◌, ◌%◌, ◌^◌, List, map, bit_and, bit_xor}
-use Rattle.std.specs.List.{range_with_len}
+use Rattle.std.specs.Prelude.{◌≡◌, ℕ, zero, suc, ◌+◌, ◌-◌, ◌*◌, ◌/◌, ◌%◌, ◌^◌, bit_and, bit_xor}
 use Rattle.seed.specs.Boxes.{s1, s2}
 use Rattle.seed.specs.declared.keys.Subkeys.{Subkeys}
 
@@ -75,10 +74,6 @@ ss zero x = copies (s1 x) m3 m2 m1 m0
 ss (suc zero) x = copies (s2 x) m0 m3 m2 m1
 ss (suc (suc zero)) x = copies (s1 x) m1 m0 m3 m2
 ss (suc (suc (suc n))) x = copies (s2 x) m2 m1 m0 m3
-
--- the tables of the extended S-boxes, in this order, with an entry for each byte
-unfoldable pub extended_boxes : List (List ℕ)
-extended_boxes = map (λ n. map (ss n) (range_with_len 0 256)) (range_with_len 0 4)
 
 -- SS0(X0) ^ SS1(X1) ^ SS2(X2) ^ SS3(X3)
 abbrev pub extended_sum : ℕ → ℕ

@@ -147,7 +147,7 @@ static SS: [[u32; 256]; 4] = [
 ];
 
 // SSn of a byte.
-#[tactic(auto, using(crate::proofs::Rule::ss_entry), unfolding(crate::specs::Function::extended_boxes))]
+#[tactic(auto, using(crate::proofs::Rule::ss_entry), unfolding(crate::proofs::Rule::extended_boxes))]
 pub(crate) fn ss(n: usize, x: u8) -> u32
     requires { n < 4 }
     ensures { result ≡ ss n x }

@@ -18,13 +18,6 @@ pub record Reading (text : List ℕ) (n : ℕ) (was buffer : List ℕ) : Type 0 
   pub leading : leading_bytes text ≡ take n buffer ++ leading_bytes (drop (2 * n) text)
   pub behind : drop n buffer ≡ drop n was
 
-joined_none : (o : Option (List ℕ)) → o ≡ joined [] o
-joined_none None = refl
-joined_none (Some xs) = refl
-
-pub starts : (text buffer : List ℕ) → Reading text 0 buffer buffer
-starts text buffer = record { whole = joined_none (bytes_of_hex text); leading = refl; behind = refl }
-
 -- the digits of pair i
 digit_at : (i k : ℕ) (xs d : List ℕ) (j : ℕ) → i < k → 2 * k ≤ length xs → j < 2 → get_or (get_or (first_chunks 2 k xs) i d) j 0 ≡ get_or xs (2 * i + j) 0
 digit_at i zero xs d j h l t = absurd (omega arith)
