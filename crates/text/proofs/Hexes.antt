@@ -119,13 +119,13 @@ module _ (text : List ℕ) (n : ℕ) (was buffer : List ℕ) (r : Reading text n
   ended h e = stands (leading_bytes text) buffer was n h (r.leading ∙ ap (λ x. take n buffer ++ x) e ∙ append-nil (take n buffer)) r.behind
 
   -- at one digit that is left over
-  stops_odd : n ≤ length buffer → length text ≡ 2 * n + 1 → (None ≡ option_map length (bytes_of_hex text)) × (buffer ≡ overlaid (leading_bytes text) was)
+  pub stops_odd : n ≤ length buffer → length text ≡ 2 * n + 1 → (None ≡ option_map length (bytes_of_hex text)) × (buffer ≡ overlaid (leading_bytes text) was)
   stops_odd h one =
       let e = odd (drop (2 * n) text) (rw length-drop (omega arith)) in
       (sym (ap (λ o. option_map length o) (r.whole ∙ ap (joined (take n buffer)) e.0)), ended h e.1)
 
   -- where nothing is left
-  done : n ≤ length buffer → length text ≡ 2 * n → (Some n ≡ option_map length (bytes_of_hex text)) × (buffer ≡ overlaid (leading_bytes text) was)
+  pub done : n ≤ length buffer → length text ≡ 2 * n → (Some n ≡ option_map length (bytes_of_hex text)) × (buffer ≡ overlaid (leading_bytes text) was)
   done h none =
       let e : drop (2 * n) text ≡ [] = drop_all (2 * n) text (omega arith) in
       let l : length (take n buffer) ≡ n = length-take-le n buffer h in

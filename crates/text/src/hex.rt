@@ -1,10 +1,35 @@
 // Bytes in capital hexadecimal.
 ghost use Rattle.std.specs.Prelude.{◌≡◌, ◌*◌, ◌==◌, ◌/◌, ◌<◌, ◌≤◌, length, IfOk, if◌then◌else◌, None, Some, string_bytes, nat_lt};
 ghost use Rattle.std.specs.Option.{option_map};
-ghost use Rattle.text.specs.Hex.{hex_of, hex_value, hex_byte, bytes_of_hex, leading_bytes, overlaid, WrittenRead, ReadWritten};
+ghost use Rattle.std.specs.Str.{IsUtf8};
+ghost use Rattle.text.specs.Hex.{hex_digit, hex_of, hex_value, hex_byte, bytes_of_hex, leading_bytes, overlaid, WrittenRead, ReadWritten};
 
+use arrayvec::ArrayVec;
 use std::alloc::{AllocError, Global};
-use std::fmt;
+use std::{fmt, str};
+
+// A hexadecimal digit, in capitals.
+fn digit(n: u8) -> u8
+    requires { n < 16 }
+    ensures { result ≡ hex_digit n }
+{
+    if n < 10 { b'0' + n } else { b'A' - 10 + n }
+}
+
+// Two digits for each of at most 16 bytes.
+#[tactic(auto, using(crate::proofs::HexPrints::digits_more, crate::proofs::HexPrints::digits_all))]
+fn digits_of(bytes: &[u8]) -> ArrayVec<u8, 32>
+    requires { length bytes.now ≤ 16 }
+    ensures digits { result.items ≡ hex_of bytes.now }
+    ensures text { IsUtf8 result.items }
+{
+    let mut digits = ArrayVec::new();
+    for byte in bytes {
+        digits.push(digit(*byte / 16));
+        digits.push(digit(*byte % 16));
+    }
+    digits
+}
 
 // Bytes that print as two capital hexadecimal digits each.
 #[derive(Clone, Copy)]
@@ -13,10 +38,9 @@ pub struct Hex<'a>(pub &'a [u8]);
 impl<'a> fmt::Display for Hex<'a> {
     ghost output = { λ hex. Some (hex_of hex.0.now) };
 
-    #[tactic(auto, using(crate::proofs::HexPrints::one_more, std::proofs::lemmas::Fmt::hex_byte))]
     fn fmt<W: fmt::Write>(&self, f: &mut fmt::Formatter<W>) -> fmt::Result {
-        for &b in self.0 {
-            write!(f, "{b:02X}")?;
+        for part in self.0.chunks(16) {
+            f.write_str(str::from_utf8(&digits_of(part)).unwrap())?;
         }
         Ok(())
     }
