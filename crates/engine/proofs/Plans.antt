@@ -1,6 +1,6 @@
 -- Laws of the plan of issue.
-use Rattle.std.proofs.Common.{◌≡◌, ℕ, zero, suc, ◌+◌, ◌/◌, ◌<◌, ◌≤◌, Bool, true, false, cond, not, ltb, List, ◌++◌, map, length, get_or, take, drop, set, replicate, is_ok, Ok, Err, Result, sym, refl, ap, ◌∙◌, subst, ⊎_elim, arith}
-use Rattle.std.proofs.lemmas.Bool.{cases_eq, ltb-false}
+use Rattle.std.proofs.Common.{◌≡◌, ℕ, zero, suc, ◌+◌, ◌/◌, ◌<◌, ◌≤◌, Bool, true, false, cond, not, ltb, List, ◌++◌, map, length, get_or, take, drop, set, replicate, is_ok, Ok, Err, Result, sym, refl, ap, ◌∙◌, arith}
+use Rattle.std.proofs.lemmas.Bool.{ltb-false}
 use Rattle.std.proofs.lemmas.Bool.Decides.{nat_tests}
 use Rattle.std.proofs.lemmas.Grind.{common_steps}
 use Rattle.std.proofs.lemmas.List.{take_more_set, drop-set-lt}
@@ -8,6 +8,7 @@ use Rattle.std.specs.Array.{IsFromFnResultFrom}
 use Rattle.std.specs.Fn.{Called}
 use Rattle.std.specs.List.{range_with_len}
 use denote.Param.Members.{Mut}
+use Rattle.memory.proofs.FromFn.{from_fn_all}
 use Rattle.memory.specs.declared.fault.Fault.{Fault}
 use Rattle.memory.specs.declared.fault.Fault.TheVariants.{Worn}
 use Rattle.memory.specs.declared.plan.PageWrite.{PageWrite}
@@ -24,13 +25,7 @@ use Rattle.engine.specs.Plan.{issue_page, issue_write, issue_plan}
 -- what `from_fn` makes, where its closure stays as it is and gives v of each index
 pub from_fn_gave : {F B : Type 0} (g : Mut F (ℕ × Unit {0}) B) (v : ℕ → B) (f : F) → ((i : ℕ) (y : B) (f' : F) → Called g f (i, tt) y f' → (y ≡ v i) × (f' ≡ f))
     → (ys : List B) (i n : ℕ) → IsFromFnResultFrom g f ys i n → (k : ℕ) (d : B) → i ≤ k → k < i + n → get_or ys k d ≡ v k
-from_fn_gave g v f call ys i zero made k d l h = absurd (omega arith)
-from_fn_gave g v f call ys i (suc n) (q, y, here, gave, rest) k d l h =
-    let said = call i y q gave in
-    ⊎_elim
-    (λ same. rw same (here.1 d ∙ said.0))
-    (λ ne. from_fn_gave g v f call ys (i + 1) n (subst (λ p. IsFromFnResultFrom g p ys (i + 1) n) said.1 rest) k d (omega arith) (omega arith))
-    (cases_eq k i)
+from_fn_gave g v f call = from_fn_all g (λ i y. y ≡ v i) f call
 
 -- each page once, lowest first
 above_run : (s : List ℕ) (a n k : ℕ) → k < a → Above k (map (issue_write s) (range_with_len a n))

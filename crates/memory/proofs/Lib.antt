@@ -1,3 +1,4 @@
 pub mod BytesAsPages
 pub mod Plans
 pub mod WearingPages
+pub mod FromFn

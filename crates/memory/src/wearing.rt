@@ -5,6 +5,7 @@ ghost use Rattle.memory.specs.WearingPages.{bytes_of, left_of, spent, one_less, 
 use crate::fault::Fault;
 use crate::memory::Memory;
 use crate::wearing_page::WearingPage;
+use std::array;
 
 // A memory of 64 pages of its own. Each has a count of writes left, and is worn where that is 0.
 #[derive(Drop)]
@@ -20,7 +21,7 @@ impl Wearing {
         ensures counts { left_of result.pages ≡ left }
     {
         Wearing {
-            pages: left.map(WearingPage::blank),
+            pages: array::from_fn(|k| WearingPage::blank(left[k])),
         }
     }
 }
