@@ -52,7 +52,7 @@ test_first s size =
     ∙ ap (λ n. holds_none (card_of (made n))) e
     ∙ card_none (first_pages_of (page_at s 0) (page_at s 1) (page_at s 2) (page_at s 11)) (made 12)
 
-test_short : (s : List ℕ) → (length s ≡ 192 → ⊥) → false ≡ issuable s
+pub test_short : (s : List ℕ) → (length s ≡ 192 → ⊥) → false ≡ issuable s
 unfolding issuable
 test_short s ne = sym (ap (λ b. b && holds_none (card_of (issued s []))) (ne_eqb (length s) 192 ne))
 

@@ -9,7 +9,7 @@ use Rattle.cipher.specs.Cipher.{BlockSize}
 use Rattle.seal.specs.Chain.{xored, chained, last_result, ShortMessages}
 use Rattle.seal.proofs.Padded.{at_least_one, at_most_16, length-padded}
 
-xor_none : (v : List ℕ) → xored v [] ≡ v
+pub xor_none : (v : List ℕ) → xored v [] ≡ v
 xor_none [] = refl
 xor_none (x ∷ xs) = refl
 
