@@ -5,7 +5,7 @@ use Rattle.std.specs.Array.{IsFromFnResultFrom}
 use Rattle.std.specs.Fn.{Called}
 use denote.Param.Members.{Mut}
 
--- where the closure stays as it is, and each of its answers is as P says
+-- where no call changes the closure, and P holds of what it gives at each index, P holds of each item
 pub from_fn_all : {F B : Type 0} (g : Mut F (ℕ × Unit {0}) B) (P : ℕ → B → Type 0) (f : F) → ((i : ℕ) (y : B) (f' : F) → Called g f (i, tt) y f' → P i y × (f' ≡ f))
     → (ys : List B) (i n : ℕ) → IsFromFnResultFrom g f ys i n → (k : ℕ) (d : B) → i ≤ k → k < i + n → P k (get_or ys k d)
 from_fn_all g P f call ys i zero made k d l h = absurd (omega arith)

@@ -39,6 +39,7 @@ impl<'a> fmt::Display for Hex<'a> {
     ghost output = { λ hex. Some (hex_of hex.0.now) };
 
     fn fmt<W: fmt::Write>(&self, f: &mut fmt::Formatter<W>) -> fmt::Result {
+        // 16 bytes at a time: to call the formatter for each byte takes about six times as long.
         for part in self.0.chunks(16) {
             f.write_str(str::from_utf8(&digits_of(part)).unwrap())?;
         }
